@@ -1,9 +1,8 @@
 -- A number that is too great makes no array and no vector.
-use Rattle.std.proofs.Common.{◌≡◌, ◌<◌, ◌-◌, ◌^◌, ℕ, nat_le, nat_lt, Bool, true, false, Option, Some, None, refl, sym, ap, ◌∙◌, arith}
+use Rattle.std.proofs.Common.{◌≡◌, ◌<◌, ◌-◌, ◌^◌, ℕ, nat_le, nat_lt, Bool, true, false, Option, Some, None, refl, sym, arith}
 use Rattle.std.proofs.lemmas.Bool.Decides.{nat_tests}
 use Rattle.kinds.specs.declared.types.VectorTypeKind.{VectorTypeKind}
-use Rattle.kinds.specs.Types.{TypeTree, shape}
-use Rattle.kinds.specs.Fitting.{is_array_of, is_vector_of}
+use Rattle.kinds.specs.Types.{TypeTree}
 use Rattle.ll_literals.specs.Chain.{◌>>=◌}
 use Rattle.ll_literals.specs.Numbers.{up_to}
 use Rattle.ll_values.specs.Values.{array_of, vector_of}

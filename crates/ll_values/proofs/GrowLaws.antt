@@ -12,7 +12,7 @@ use Rattle.llvm_core.specs.declared.consts.LLVMConstKind.{LLVMConstKind}
 use Rattle.llvm_core.specs.Module.{Module}
 use Rattle.llvm_core.specs.Parts.{IsTypeOver}
 use Rattle.llvm_core.specs.Sound.{IsModule}
-use Rattle.llvm_core.specs.Data.{ConstTree, trees_of, type_trees, const_trees, type_at, const_at, type_tree, data_of}
+use Rattle.llvm_core.specs.Data.{ConstTree, trees_of, type_trees, const_trees, type_at, types_at, const_at, type_tree, data_of}
 use Rattle.llvm_core.proofs.TreeLemmas.{same_tree, type_at-kept, const_at-kept, const_trees-retyped}
 use Rattle.ll_lines.specs.declared.lines.Said.{Said}
 use Rattle.ll_lines.specs.declared.lines.Said.TheVariants as S
@@ -73,6 +73,14 @@ const_interned old new k n h rest is sound =
 -- a kind over earlier types keeps its tree
 pub kind_same : (m n : Module) → Interns m n → (k : LLVMTypeKind) → IsTypeOver (length m.types) k → type_tree (trees_of n).types k ≡ type_tree (trees_of m).types k
 kind_same m n g k h = same_tree (trees_of n).types (trees_of m).types (length m.types) (λ j lt. g.types (record { 0 = j }) lt) k h
+
+-- so do types that are there
+pub trees_same : (m n : Module) → Interns m n → (ts : List LLVMType) → All (IsTypeIn m) ts → types_at (trees_of n).types ts ≡ types_at (trees_of m).types ts
+trees_same m n g [] h = refl
+trees_same m n g (t ∷ ts) h =
+    let first = g.types t (All-head (IsTypeIn m) t ts h) in
+    let rest = trees_same m n g ts (All-tail (IsTypeIn m) t ts h) in
+    cc
 
 -- ---- lists
 

@@ -1,24 +1,29 @@
 -- What values say stays as the module and the store grow.
-use Rattle.std.proofs.Common.{◌≡◌, ◌<◌, ◌≤◌, ℕ, zero, suc, List, [], ◌∷◌, ◌++◌, Some, length, length-append, map, slice_get, refl, ap, ◌∙◌, arith, All}
-use Rattle.std.proofs.lemmas.List.Elements.{All-weaker, All-nil, All-head, All-tail}
+use Rattle.std.proofs.Common.{◌≡◌, ◌<◌, ◌≤◌, ℕ, zero, suc, List, [], ◌∷◌, ◌++◌, Option, Some, None, length, length-append, map, slice_get, refl, ap, ◌∙◌, arith, All}
+use Rattle.std.specs.Prelude.{IfSome}
+use Rattle.std.specs.Option.{option_map}
+use Rattle.std.proofs.lemmas.List.Elements.{All-weaker, All-nil}
 use Rattle.support.proofs.ListLaws.{item_there}
 use Rattle.llvm_core.specs.Module.{Module}
 use Rattle.llvm_core.specs.declared.numbers.LLVMType.{LLVMType}
-use Rattle.llvm_core.specs.Data.{trees_of, types_at}
+use Rattle.llvm_core.specs.Data.{trees_of}
 use Rattle.ll_lines.specs.declared.lines.Param.{Param}
 use Rattle.ll_lines.specs.Views.{param_view, IsTypeIn, IsInstIn}
 use Rattle.ll_values.specs.declared.store.Store.{Store}
 use Rattle.ll_values.specs.declared.value.Piece.{Piece}
 use Rattle.ll_values.specs.declared.value.Piece.TheVariants as P
+use Rattle.ll_values.specs.declared.value.Fields.{Fields}
+use Rattle.ll_values.specs.declared.value.Structure.{Structure}
 use Rattle.ll_values.specs.declared.value.Definition.{Definition}
 use Rattle.ll_values.specs.declared.value.Value.{Value}
 use Rattle.ll_values.specs.declared.value.Value.TheVariants as V
 use Rattle.ll_values.specs.Lists.{list_at}
 use Rattle.ll_values.specs.Values as S
-use Rattle.ll_values.specs.Views.{inst_at, part_view, body_at, types_in, params_at, definition_view, functions_at, value_view, IsPieceIn, IsDefinitionIn, IsValueIn, IsStoreIn}
+use Rattle.ll_values.specs.Values.{are_fields}
+use Rattle.ll_values.specs.Views.{inst_at, part_view, body_at, types_in, params_at, fields_view, structure_view, structs_at, definition_view, functions_at, value_view, AreFieldsOf, IsPieceIn, IsStructureIn, IsDefinitionIn, IsValueIn, IsStoreIn}
 use Rattle.ll_values.specs.Growing.{Interns, KeepsLists, Keeps}
 use Rattle.ll_values.proofs.ListLaws.{at_front}
-use Rattle.ll_values.proofs.GrowLaws.{map_same, all_item, inst_same, param_same, typed_same, said_same, inst_there, typed_there, said_there}
+use Rattle.ll_values.proofs.GrowLaws.{map_same, all_item, trees_same, inst_same, param_same, typed_same, said_same, inst_there, typed_there, said_there}
 
 -- the items of a list among lists
 pub all_at : {T : Type 0} (Q : T → Type 0) (ls : List (List T)) (n : ℕ) → All (All Q) ls → n ≤ length ls → All Q (list_at ls n)
@@ -38,7 +43,7 @@ lists_twice : {T : Type 0} (a b c : List (List T)) → KeepsLists a b → KeepsL
 lists_twice a b c g h = record { count = omega (arith, g.count, h.count); at = λ n le. h.at n (omega (arith, g.count, le)) ∙ g.at n le }
 
 pub store_kept : (s : Store) → Keeps s s
-store_kept s = record { inst_count = omega arith; insts = λ n h. refl; entries = lists_kept s.entries; bodies = lists_kept s.bodies; types = lists_kept s.types; params = lists_kept s.params; functions = lists_kept s.functions }
+store_kept s = record { inst_count = omega arith; insts = λ n h. refl; entries = lists_kept s.entries; bodies = lists_kept s.bodies; types = lists_kept s.types; params = lists_kept s.params; structs = lists_kept s.structs; functions = lists_kept s.functions }
 
 pub kept_twice : (a b c : Store) → Keeps a b → Keeps b c → Keeps a c
 kept_twice a b c g h = record {
@@ -48,8 +53,21 @@ kept_twice a b c g h = record {
   bodies = lists_twice a.bodies b.bodies c.bodies g.bodies h.bodies;
   types = lists_twice a.types b.types c.types g.types h.types;
   params = lists_twice a.params b.params c.params g.params h.params;
+  structs = lists_twice a.structs b.structs c.structs g.structs h.structs;
   functions = lists_twice a.functions b.functions c.functions g.functions h.functions;
 }
+
+-- the fields of structs stay right as types and lists of them are added
+module _ (m n : Module) (old new : List (List LLVMType)) (g : Interns m n) (k : KeepsLists old new) (types : All (All (IsTypeIn m)) old) where
+  fields_there : (b : Fields) → AreFieldsOf m old b → AreFieldsOf n new b
+  fields_there b h = record {
+    types = omega (arith, k.count, h.types);
+    fit = rw (k.at b.types h.types, trees_same m n g (list_at old b.types) (all_at (IsTypeIn m) old b.types types h.types)) h.fit;
+  }
+
+  pub optional_there : (o : Option Fields) → IfSome o (AreFieldsOf m old) → IfSome o (AreFieldsOf n new)
+  optional_there None h = h
+  optional_there (Some b) h = fields_there b h
 
 -- a store stays right as types and constants are added
 pub store_there : (m n : Module) (s : Store) → Interns m n → IsStoreIn m s → IsStoreIn n s
@@ -59,6 +77,7 @@ store_there m n s g st = record {
   bodies = all_lists (IsPieceIn m s) (IsPieceIn n s) piece s.bodies st.bodies;
   types = all_lists (IsTypeIn m) (IsTypeIn n) (λ t h. omega (arith, g.type_count, h)) s.types st.types;
   params = all_lists (λ (p : Param). IsTypeIn m p.ty) (λ (p : Param). IsTypeIn n p.ty) (λ p h. omega (arith, g.type_count, h)) s.params st.params;
+  structs = all_lists (IsStructureIn m s) (IsStructureIn n s) (λ x h. optional_there m n s.types s.types g (lists_kept s.types) st.types x.body h) s.structs st.structs;
   functions = all_lists (IsDefinitionIn m s) (IsDefinitionIn n s) (λ d h. ((omega (arith, g.type_count, h.0.0), h.0.1), h.1)) s.functions st.functions;
 }
   where
@@ -80,20 +99,27 @@ module _ (bytes : List ℕ) (m n : Module) (s t : Store) (g : Interns m n) (k : 
   pub body_same : (i : ℕ) → i ≤ length s.bodies → body_at bytes (trees_of n) t i ≡ body_at bytes (trees_of m) s i
   body_same i h = rw (k.bodies.at i h) (map_same (IsPieceIn m s) (part_view bytes (trees_of n) t) (part_view bytes (trees_of m) s) piece_same (list_at s.bodies i) (all_at (IsPieceIn m s) s.bodies i st.bodies h))
 
-  trees_same : (ts : List LLVMType) → All (IsTypeIn m) ts → types_at (trees_of n).types ts ≡ types_at (trees_of m).types ts
-  trees_same [] h = refl
-  trees_same (t ∷ ts) h =
-      let first = g.types t (All-head (IsTypeIn m) t ts h) in
-      let rest = trees_same ts (All-tail (IsTypeIn m) t ts h) in
-      cc
-
   pub types_same : (i : ℕ) → i ≤ length s.types → types_in bytes (trees_of n) t i ≡ types_in bytes (trees_of m) s i
-  types_same i h = rw (k.types.at i h) (trees_same (list_at s.types i) (all_at (IsTypeIn m) s.types i st.types h))
+  types_same i h = rw (k.types.at i h) (trees_same m n g (list_at s.types i) (all_at (IsTypeIn m) s.types i st.types h))
 
   pub params_same : (i : ℕ) → i ≤ length s.params → params_at bytes (trees_of n) t i ≡ params_at bytes (trees_of m) s i
   params_same i h =
       let Q : Param → Type 0 = λ (p : Param). IsTypeIn m p.ty in
       rw (k.params.at i h) (map_same Q (param_view bytes (trees_of n)) (param_view bytes (trees_of m)) (param_same bytes m n g) (list_at s.params i) (all_at Q s.params i st.params h))
+
+  fields_same : (b : Fields) → AreFieldsOf m s.types b → fields_view (trees_of n) t b ≡ fields_view (trees_of m) s b
+  fields_same b h = rw (k.types.at b.types h.types, trees_same m n g (list_at s.types b.types) (all_at (IsTypeIn m) s.types b.types st.types h.types)) refl
+
+  optional_same : (o : Option Fields) → IfSome o (AreFieldsOf m s.types) → option_map (fields_view (trees_of n) t) o ≡ option_map (fields_view (trees_of m) s) o
+  optional_same None h = refl
+  optional_same (Some b) h = ap Some (fields_same b h)
+
+  structure_same : (x : Structure) → IsStructureIn m s x → structure_view bytes (trees_of n) t x ≡ structure_view bytes (trees_of m) s x
+  structure_same x h = rw (optional_same x.body h) refl
+
+  pub structs_same : (i : ℕ) → i ≤ length s.structs → structs_at bytes (trees_of n) t i ≡ structs_at bytes (trees_of m) s i
+  structs_same i h =
+      rw (k.structs.at i h) (map_same (IsStructureIn m s) (structure_view bytes (trees_of n) t) (structure_view bytes (trees_of m) s) structure_same (list_at s.structs i) (all_at (IsStructureIn m s) s.structs i st.structs h))
 
   pub definition_same : (d : Definition) → IsDefinitionIn m s d → definition_view bytes (trees_of n) t d ≡ definition_view bytes (trees_of m) s d
   definition_same d h = rw (g.types d.head.result h.0.0, params_same d.head.params h.0.1, body_same d.body h.1) refl
@@ -123,7 +149,9 @@ module _ (bytes : List ℕ) (m n : Module) (s t : Store) (g : Interns m n) (k : 
   value_same (V.Head d) h = rw (g.types d.result h.0, params_same d.params h.1) refl
   value_same (V.Source l) h = refl
   value_same (V.Function d) h = ap S.FunctionV (definition_same d h)
-  value_same (V.File name i) h = rw (functions_same i h) refl
+  value_same (V.Fields b) h = ap S.FieldsV (optional_same b h)
+  value_same (V.Struct x) h = ap S.StructV (structure_same x h)
+  value_same (V.File name j i) h = rw (structs_same j h.0, functions_same i h.1) refl
 
   piece_there : (p : Piece) → IsPieceIn m s p → IsPieceIn n t p
   piece_there (P.Label l) h = tt
@@ -153,7 +181,9 @@ module _ (bytes : List ℕ) (m n : Module) (s t : Store) (g : Interns m n) (k : 
   value_there (V.Head d) h = (omega (arith, g.type_count, h.0), omega (arith, k.params.count, h.1))
   value_there (V.Source l) h = tt
   value_there (V.Function d) h = definition_there d h
-  value_there (V.File name i) h = omega (arith, k.functions.count, h)
+  value_there (V.Fields b) h = optional_there m n s.types t.types g k.types st.types b h
+  value_there (V.Struct x) h = optional_there m n s.types t.types g k.types st.types x.body h
+  value_there (V.File name j i) h = (omega (arith, k.structs.count, h.0), omega (arith, k.functions.count, h.1))
 
   pub values_same : (vs : List Value) → All (IsValueIn m s) vs → map (value_view bytes (trees_of n) t) vs ≡ map (value_view bytes (trees_of m) s) vs
   values_same vs h = map_same (IsValueIn m s) (value_view bytes (trees_of n) t) (value_view bytes (trees_of m) s) value_same vs h

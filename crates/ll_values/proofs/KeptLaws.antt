@@ -12,14 +12,16 @@ use Rattle.ll_values.specs.declared.store.Store.{Store}
 use Rattle.ll_values.specs.declared.value.Entry.{Entry}
 use Rattle.ll_values.specs.declared.value.Piece.{Piece}
 use Rattle.ll_values.specs.declared.value.Piece.TheVariants as P
+use Rattle.ll_values.specs.declared.value.Structure.{Structure}
 use Rattle.ll_values.specs.declared.value.Definition.{Definition}
 use Rattle.ll_values.specs.declared.value.Value.TheVariants as V
 use Rattle.ll_values.specs.Lists.{list_at}
 use Rattle.ll_values.specs.Values.{InstV}
-use Rattle.ll_values.specs.Views.{entries_from, body_from, types_from, params_from, file_from, IsPieceIn, IsDefinitionIn, IsStoreIn}
+use Rattle.ll_values.specs.Views.{entries_from, body_from, types_from, params_from, struct_from, file_from, IsPieceIn, IsStructureIn, IsDefinitionIn, IsStoreIn}
 use Rattle.ll_values.specs.Growing.{Kept}
 use Rattle.ll_values.proofs.ListLaws.{at_last}
-use Rattle.ll_values.proofs.KeepLaws.{all_at, all_lists, lists_kept, lists_pushed}
+use Rattle.ll_values.proofs.GrowLaws.{none_interned}
+use Rattle.ll_values.proofs.KeepLaws.{all_at, all_lists, lists_kept, lists_pushed, optional_there}
 
 -- lists with one list more, of an item that is right before a list that is there
 all_put : {T : Type 0} (Q : T → Type 0) (old new : List (List T)) (x : T) (n : ℕ) → new ≡ old ++ (x ∷ list_at old n) ∷ [] → n ≤ length old → Q x → All (All Q) old → All (All Q) new
@@ -31,8 +33,8 @@ last_of old new xs v e h = rw e (at_last old xs v (h ∙ ap length e))
 module _ (bytes : List ℕ) (m : Module) (s : Store) (st : IsStoreIn m s) where
   pub kept_entries : (e : Entry) (n : ℕ) (new : List (List Entry)) (v : ℕ) → n ≤ length s.entries → new ≡ s.entries ++ (e ∷ list_at s.entries n) ∷ [] → v ≡ length new → Kept bytes m s (record s { entries = new }) (entries_from bytes (trees_of m) s e n) (V.Entries v)
   kept_entries e n new v le put last = record {
-    store = record { sound = st.sound; insts = st.insts; bodies = st.bodies; types = st.types; params = st.params; functions = st.functions };
-    keeps = record { inst_count = omega arith; insts = λ n h. refl; entries = lists_pushed s.entries new (e ∷ list_at s.entries n) put; bodies = lists_kept s.bodies; types = lists_kept s.types; params = lists_kept s.params; functions = lists_kept s.functions };
+    store = record { sound = st.sound; insts = st.insts; bodies = st.bodies; types = st.types; params = st.params; structs = st.structs; functions = st.functions };
+    keeps = record { inst_count = omega arith; insts = λ n h. refl; entries = lists_pushed s.entries new (e ∷ list_at s.entries n) put; bodies = lists_kept s.bodies; types = lists_kept s.types; params = lists_kept s.params; structs = lists_kept s.structs; functions = lists_kept s.functions };
     there = omega (arith, last);
     value = rw (last_of s.entries new (e ∷ list_at s.entries n) v put last) refl;
   }
@@ -47,17 +49,18 @@ module _ (bytes : List ℕ) (m : Module) (s : Store) (st : IsStoreIn m s) where
           bodies = all_put (IsPieceIn m s) s.bodies new p n put le q st.bodies;
           types = st.types;
           params = st.params;
+          structs = st.structs;
           functions = all_lists (IsDefinitionIn m s) (IsDefinitionIn m (record s { bodies = new })) (λ d h. (h.0, omega (arith, more.count, h.1))) s.functions st.functions;
         };
-        keeps = record { inst_count = omega arith; insts = λ n h. refl; entries = lists_kept s.entries; bodies = more; types = lists_kept s.types; params = lists_kept s.params; functions = lists_kept s.functions };
+        keeps = record { inst_count = omega arith; insts = λ n h. refl; entries = lists_kept s.entries; bodies = more; types = lists_kept s.types; params = lists_kept s.params; structs = lists_kept s.structs; functions = lists_kept s.functions };
         there = omega (arith, last);
         value = rw (last_of s.bodies new (p ∷ list_at s.bodies n) v put last) refl;
       }
 
   pub kept_types : (ty : LLVMType) (n : ℕ) (new : List (List LLVMType)) (v : ℕ) → IsTypeIn m ty → n ≤ length s.types → new ≡ s.types ++ (ty ∷ list_at s.types n) ∷ [] → v ≡ length new → Kept bytes m s (record s { types = new }) (types_from bytes (trees_of m) s ty n) (V.Types v)
-  kept_types ty n new v q le put last = record {
-    store = record { sound = st.sound; insts = st.insts; bodies = st.bodies; types = all_put (IsTypeIn m) s.types new ty n put le q st.types; params = st.params; functions = st.functions };
-    keeps = record { inst_count = omega arith; insts = λ n h. refl; entries = lists_kept s.entries; bodies = lists_kept s.bodies; types = lists_pushed s.types new (ty ∷ list_at s.types n) put; params = lists_kept s.params; functions = lists_kept s.functions };
+  kept_types ty n new v q le put last = let more = lists_pushed s.types new (ty ∷ list_at s.types n) put in record {
+    store = record { sound = st.sound; insts = st.insts; bodies = st.bodies; types = all_put (IsTypeIn m) s.types new ty n put le q st.types; params = st.params; structs = all_lists (IsStructureIn m s) (IsStructureIn m (record s { types = new })) (λ x h. optional_there m m s.types new (none_interned m st.sound) more st.types x.body h) s.structs st.structs; functions = st.functions };
+    keeps = record { inst_count = omega arith; insts = λ n h. refl; entries = lists_kept s.entries; bodies = lists_kept s.bodies; types = more; params = lists_kept s.params; structs = lists_kept s.structs; functions = lists_kept s.functions };
     there = omega (arith, last);
     value = rw (last_of s.types new (ty ∷ list_at s.types n) v put last) refl;
   }
@@ -72,18 +75,29 @@ module _ (bytes : List ℕ) (m : Module) (s : Store) (st : IsStoreIn m s) where
           bodies = st.bodies;
           types = st.types;
           params = all_put (λ (x : Param). IsTypeIn m x.ty) s.params new p n put le q st.params;
+          structs = st.structs;
           functions = all_lists (IsDefinitionIn m s) (IsDefinitionIn m (record s { params = new })) (λ d h. ((h.0.0, omega (arith, more.count, h.0.1)), h.1)) s.functions st.functions;
         };
-        keeps = record { inst_count = omega arith; insts = λ n h. refl; entries = lists_kept s.entries; bodies = lists_kept s.bodies; types = lists_kept s.types; params = more; functions = lists_kept s.functions };
+        keeps = record { inst_count = omega arith; insts = λ n h. refl; entries = lists_kept s.entries; bodies = lists_kept s.bodies; types = lists_kept s.types; params = more; structs = lists_kept s.structs; functions = lists_kept s.functions };
         there = omega (arith, last);
         value = rw (last_of s.params new (p ∷ list_at s.params n) v put last) refl;
       }
 
-  pub kept_file : (d : Definition) (n : ℕ) (new : List (List Definition)) (v : ℕ) → IsDefinitionIn m s d → n ≤ length s.functions → new ≡ s.functions ++ (d ∷ list_at s.functions n) ∷ [] → v ≡ length new → Kept bytes m s (record s { functions = new }) (file_from bytes (trees_of m) s d n) (V.File None v)
-  kept_file d n new v q le put last = record {
-    store = record { sound = st.sound; insts = st.insts; bodies = st.bodies; types = st.types; params = st.params; functions = all_put (IsDefinitionIn m s) s.functions new d n put le q st.functions };
-    keeps = record { inst_count = omega arith; insts = λ n h. refl; entries = lists_kept s.entries; bodies = lists_kept s.bodies; types = lists_kept s.types; params = lists_kept s.params; functions = lists_pushed s.functions new (d ∷ list_at s.functions n) put };
-    there = omega (arith, last);
+  pub kept_struct : (x : Structure) (n k : ℕ) (new : List (List Structure)) (v : ℕ) → IsStructureIn m s x → n ≤ length s.structs → k ≤ length s.functions → new ≡ s.structs ++ (x ∷ list_at s.structs n) ∷ [] → v ≡ length new
+      → Kept bytes m s (record s { structs = new }) (struct_from bytes (trees_of m) s x n k) (V.File None v k)
+  kept_struct x n k new v q le within put last = record {
+    store = record { sound = st.sound; insts = st.insts; bodies = st.bodies; types = st.types; params = st.params; structs = all_put (IsStructureIn m s) s.structs new x n put le q st.structs; functions = st.functions };
+    keeps = record { inst_count = omega arith; insts = λ n h. refl; entries = lists_kept s.entries; bodies = lists_kept s.bodies; types = lists_kept s.types; params = lists_kept s.params; structs = lists_pushed s.structs new (x ∷ list_at s.structs n) put; functions = lists_kept s.functions };
+    there = (omega (arith, last), within);
+    value = rw (last_of s.structs new (x ∷ list_at s.structs n) v put last) refl;
+  }
+
+  pub kept_file : (d : Definition) (k n : ℕ) (new : List (List Definition)) (v : ℕ) → IsDefinitionIn m s d → k ≤ length s.structs → n ≤ length s.functions → new ≡ s.functions ++ (d ∷ list_at s.functions n) ∷ [] → v ≡ length new
+      → Kept bytes m s (record s { functions = new }) (file_from bytes (trees_of m) s d k n) (V.File None k v)
+  kept_file d k n new v q within le put last = record {
+    store = record { sound = st.sound; insts = st.insts; bodies = st.bodies; types = st.types; params = st.params; structs = st.structs; functions = all_put (IsDefinitionIn m s) s.functions new d n put le q st.functions };
+    keeps = record { inst_count = omega arith; insts = λ n h. refl; entries = lists_kept s.entries; bodies = lists_kept s.bodies; types = lists_kept s.types; params = lists_kept s.params; structs = lists_kept s.structs; functions = lists_pushed s.functions new (d ∷ list_at s.functions n) put };
+    there = (within, omega (arith, last));
     value = rw (last_of s.functions new (d ∷ list_at s.functions n) v put last) refl;
   }
 
@@ -108,9 +122,10 @@ module _ (bytes : List ℕ) (m : Module) (s : Store) (st : IsStoreIn m s) where
           bodies = all_lists (IsPieceIn m s) (IsPieceIn m (record s { insts = new.insts })) piece s.bodies st.bodies;
           types = st.types;
           params = st.params;
+          structs = st.structs;
           functions = st.functions;
         };
-        keeps = record { inst_count = omega (arith, longer); insts = λ j h. rw put (slice_get-before s.insts.items (i ∷ []) j h); entries = lists_kept s.entries; bodies = lists_kept s.bodies; types = lists_kept s.types; params = lists_kept s.params; functions = lists_kept s.functions };
+        keeps = record { inst_count = omega (arith, longer); insts = λ j h. rw put (slice_get-before s.insts.items (i ∷ []) j h); entries = lists_kept s.entries; bodies = lists_kept s.bodies; types = lists_kept s.types; params = lists_kept s.params; structs = lists_kept s.structs; functions = lists_kept s.functions };
         there = omega (arith, longer, last);
         value = rw at refl;
       }

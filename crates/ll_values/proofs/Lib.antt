@@ -3,6 +3,7 @@ pub mod ListLaws
 pub mod GrowLaws
 pub mod KeepLaws
 pub mod KeptLaws
+pub mod MakeLaws
 pub mod SaidLaws
 pub mod CountLaws
 pub mod FieldLaws

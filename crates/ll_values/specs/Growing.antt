@@ -33,6 +33,7 @@ pub record Keeps (old new : Store) : Type 0 where
   pub bodies : KeepsLists old.bodies new.bodies
   pub types : KeepsLists old.types new.types
   pub params : KeepsLists old.params new.params
+  pub structs : KeepsLists old.structs new.structs
   pub functions : KeepsLists old.functions new.functions
 
 -- the value says what is made, which the store keeps now

@@ -13,6 +13,7 @@ use Rattle.ll_values.specs.declared.form.TypedKind.TheVariants as T
 
 abbrev pub detail_count : DetailKind → ℕ
 detail_count D.Source = 1
+detail_count D.Opaque = 0
 detail_count D.External = 1
 detail_count D.Space = 1
 detail_count D.Param = 3
@@ -30,6 +31,7 @@ detail_count D.NoWraps = 0
 abbrev pub list_count : ListKind → ℕ
 list_count L.FileMore = 2
 list_count L.FileEnd = 0
+list_count L.Structure = 2
 list_count L.Define = 5
 list_count L.Head = 5
 list_count L.Parameters = 3
@@ -59,11 +61,14 @@ row_count R.Jump = 1
 row_count R.Branch = 3
 
 abbrev pub typed_count : TypedKind → ℕ
+typed_count T.Fields = 1
+typed_count T.PackedFields = 1
 typed_count T.Void = 0
 typed_count T.Int = 1
 typed_count T.Pointer = 1
 typed_count T.Flat = 1
 typed_count T.Array = 2
+typed_count T.Named = 1
 typed_count T.Struct = 1
 typed_count T.Vector = 2
 typed_count T.Scalable = 2

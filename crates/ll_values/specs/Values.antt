@@ -8,13 +8,15 @@ use Rattle.kinds.specs.declared.types.VectorTypeKind.{VectorTypeKind}
 use Rattle.kinds.specs.declared.types.VectorTypeKind.TheVariants.{Fixed, Scalable}
 use Rattle.kinds.specs.declared.types.StructLayout.{StructLayout}
 use Rattle.kinds.specs.declared.types.StructLayout.TheVariants.{Packed, Unpacked}
-use Rattle.kinds.specs.Types.{TypeTree, VoidType, IntType, PointerType, ArrayType, VectorType, StructType, TypeTrees, NoTypes, ThenType, shape}
+use Rattle.kinds.specs.Types.{TypeTree, VoidType, IntType, PointerType, ArrayType, VectorType, StructType, NamedType, TypeTrees, NoTypes, ThenType, shape}
+use Rattle.kinds.specs.Structs.{StructBody}
 use Rattle.kinds.specs.Fitting.{is_array_of, is_vector_of, is_field}
 use Rattle.llvm_core.specs.Data.{IntConst}
 use Rattle.ll_literals.specs.Chain.{◌>>=◌}
+use Rattle.ll_literals.specs.Names.{symbol_name}
 use Rattle.ll_literals.specs.Numbers.{number_of, up_to, width_of}
 use Rattle.ll_literals.specs.Literals.{const_value}
-use Rattle.ll_lines.specs.Lines.{Text, Said, Local, Const, Typed, Incoming, Inst, Phi, Row, Part, Label, Does, Param, Function, File}
+use Rattle.ll_lines.specs.Lines.{Text, Said, Local, Const, Typed, Incoming, Inst, Phi, Row, Part, Label, Does, Param, Function, StructLine, File}
 use Rattle.ll_values.specs.declared.form.Kind.{Kind}
 use Rattle.ll_values.specs.declared.form.Kind.TheVariants as K
 use Rattle.ll_values.specs.declared.form.DetailKind.{DetailKind}
@@ -67,6 +69,9 @@ pub data Value : Type 0 where
   HeadV : Head → Value
   SourceV : Text → Value
   FunctionV : Function → Value
+  -- the fields of a struct, none where it is opaque
+  FieldsV : Option StructBody → Value
+  StructV : StructLine → Value
   FileV : File → Value
 
 -- ---- types and literals
@@ -98,6 +103,14 @@ are_fields (ThenType τ τs) = is_field (shape τ) && are_fields τs
 abbrev pub struct_of : StructLayout → TypeTrees → Option TypeTree
 struct_of layout τs = if are_fields τs then Some (StructType layout τs) else None
 
+-- the struct that a token % and a name or digits name
+abbrev pub named_type : Text → Option TypeTree
+named_type t = option_map NamedType (symbol_name t)
+
+-- types, where they may be the fields of a struct
+abbrev pub body_of : StructLayout → TypeTrees → Option StructBody
+body_of layout τs = if are_fields τs then Some (record { fields = τs; layout = layout }) else None
+
 -- what a literal says at a type: a local is a name still, and constants are integers of at most 64 bits
 abbrev pub said : TypeTree → Literal → Option Said
 said τ (LocalL t) = Some (Local t)
@@ -124,14 +137,18 @@ cast op x τ = Row (record { op = op; written = Some τ; operands = x ∷ []; ta
 
 -- ---- files
 
--- a name, or a function, before functions that no name stands among
-abbrev pub named : Text → (source : Option Text) → List Function → Option Value
-named t None fs = Some (FileV (record { source = Some t; functions = fs }))
-named t (Some u) fs = None
+-- a name, a struct, or a function, before others that no name stands among
+abbrev pub named : Text → (source : Option Text) → List StructLine → List Function → Option Value
+named t None ss fs = Some (FileV (record { source = Some t; structs = ss; functions = fs }))
+named t (Some u) ss fs = None
 
-abbrev pub defined : Function → (source : Option Text) → List Function → Option Value
-defined f None fs = Some (FileV (record { source = None; functions = f ∷ fs }))
-defined f (Some u) fs = None
+abbrev pub structured : StructLine → (source : Option Text) → List StructLine → List Function → Option Value
+structured s None ss fs = Some (FileV (record { source = None; structs = s ∷ ss; functions = fs }))
+structured s (Some u) ss fs = None
+
+abbrev pub defined : Function → (source : Option Text) → List StructLine → List Function → Option Value
+defined f None ss fs = Some (FileV (record { source = None; structs = ss; functions = f ∷ fs }))
+defined f (Some u) ss fs = None
 
 -- ---- a line for each kind
 
@@ -152,6 +169,7 @@ detail_by D.Param (TypeV τ ∷ NoneV ∷ NoneV ∷ []) = Some (ParamV (record {
 detail_by D.Param (TypeV τ ∷ NoneV ∷ TextV t ∷ []) = Some (ParamV (record { type = τ; name = Some t }))
 detail_by D.Source (TextV t ∷ []) = Some (SourceV t)
 detail_by D.External (TextV t ∷ []) = Some NoneV
+detail_by D.Opaque [] = Some (FieldsV None)
 detail_by _ _ = None
 
 -- lists, and what holds them; the name of the module stands first, where it stands
@@ -167,9 +185,11 @@ list_by L.ParamsMore (ParamV p ∷ ParamsV ps ∷ []) = Some (ParamsV (p ∷ ps)
 list_by L.Parameters (ParamsV ps ∷ NoneV ∷ NoneV ∷ []) = Some (ParamsV ps)
 list_by L.Head (NoneV ∷ NoneV ∷ TypeV τ ∷ TextV t ∷ ParamsV ps ∷ []) = Some (HeadV (record { result = τ; name = t; params = ps }))
 list_by L.Define (NoneV ∷ HeadV h ∷ NoneV ∷ NoneV ∷ BodyV ps ∷ []) = Some (FunctionV (record { result = h.result; name = h.name; params = h.params; body = ps }))
-list_by L.FileEnd [] = Some (FileV (record { source = None; functions = [] }))
-list_by L.FileMore (SourceV t ∷ FileV f ∷ []) = named t f.source f.functions
-list_by L.FileMore (FunctionV d ∷ FileV f ∷ []) = defined d f.source f.functions
+list_by L.Structure (TextV t ∷ FieldsV b ∷ []) = Some (StructV (record { name = t; body = b }))
+list_by L.FileEnd [] = Some (FileV (record { source = None; structs = []; functions = [] }))
+list_by L.FileMore (SourceV t ∷ FileV f ∷ []) = named t f.source f.structs f.functions
+list_by L.FileMore (StructV s ∷ FileV f ∷ []) = structured s f.source f.structs f.functions
+list_by L.FileMore (FunctionV d ∷ FileV f ∷ []) = defined d f.source f.structs f.functions
 list_by _ _ = None
 
 -- instructions that are no phi
@@ -196,9 +216,17 @@ abbrev pub is_type : TypedKind → Bool
 is_type T.Typed = false
 is_type T.Pair = false
 is_type T.Phi = false
+is_type T.Fields = false
+is_type T.PackedFields = false
 is_type _ = true
 
--- types, and what a literal takes its type from
+-- those of the fields of structs
+abbrev pub is_body : TypedKind → Bool
+is_body T.Fields = true
+is_body T.PackedFields = true
+is_body _ = false
+
+-- types, the fields of structs, and what a literal takes its type from
 abbrev pub typed_by : TypedKind → List Value → Option Value
 typed_by T.Void [] = Some (TypeV VoidType)
 typed_by T.Int (TextV t ∷ []) = option_map TypeV (int_type t)
@@ -210,6 +238,9 @@ typed_by T.Vector (TextV t ∷ TypeV τ ∷ []) = option_map TypeV (vector_type 
 typed_by T.Scalable (TextV t ∷ TypeV τ ∷ []) = option_map TypeV (vector_type Scalable t τ)
 typed_by T.Struct (TypesV τs ∷ []) = option_map TypeV (struct_of Unpacked τs)
 typed_by T.Packed (TypesV τs ∷ []) = option_map TypeV (struct_of Packed τs)
+typed_by T.Named (TextV t ∷ []) = option_map TypeV (named_type t)
+typed_by T.Fields (TypesV τs ∷ []) = option_map (λ (b : StructBody). FieldsV (Some b)) (body_of Unpacked τs)
+typed_by T.PackedFields (TypesV τs ∷ []) = option_map (λ (b : StructBody). FieldsV (Some b)) (body_of Packed τs)
 typed_by T.Typed (TypeV τ ∷ LiteralV ℓ ∷ []) = option_map TypedV (typed τ ℓ)
 typed_by T.Pair (TypeV τ ∷ LiteralV ℓ ∷ LiteralV r ∷ []) = typed τ ℓ >>= λ x. typed τ r >>= λ y. Some (PairV x y)
 typed_by T.Phi (TypeV τ ∷ EntryV e ∷ EntriesV es ∷ []) = incoming τ (e ∷ es) >>= λ xs. Some (InstV (Phi τ xs))

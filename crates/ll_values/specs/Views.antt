@@ -1,13 +1,14 @@
 -- What the values on a stack say, over the bytes of the text, the trees of the module and what is kept in a store.
-use Rattle.std.specs.Prelude.{◌<◌, ◌≤◌, ℕ, List, [], ◌∷◌, map, length, slice_get, None, All}
+use Rattle.std.specs.Prelude.{◌<◌, ◌≤◌, ◌≡◌, ℕ, true, List, [], ◌∷◌, map, length, slice_get, None, All, IfSome}
 use Rattle.std.specs.Option.{option_map, option_map_or}
 use Rattle.kinds.specs.Types.{VoidType, TypeTrees, ThenType}
+use Rattle.kinds.specs.Structs.{StructBody}
 use Rattle.llvm_core.specs.Module.{Module}
 use Rattle.llvm_core.specs.Sound.{IsModule}
-use Rattle.llvm_core.specs.Data.{Trees, type_at, types_at}
+use Rattle.llvm_core.specs.Data.{Trees, trees_of, type_at, types_at}
 use Rattle.llvm_core.specs.declared.numbers.LLVMType.{LLVMType}
 use Rattle.ll_lines.specs.declared.lines.Param as code_param
-use Rattle.ll_lines.specs.Lines.{Inst, Phi, Part, Label, Does, Param, Function}
+use Rattle.ll_lines.specs.Lines.{Inst, Phi, Part, Label, Does, Param, StructLine, Function}
 use Rattle.ll_lines.specs.Views.{text_of, typed_view, inst_view, param_view, IsTypeIn, IsSaidIn, IsTypedIn, IsInstIn}
 use Rattle.ll_values.specs.declared.store.Store.{Store}
 use Rattle.ll_values.specs.declared.value.Literal as code_literal
@@ -17,10 +18,12 @@ use Rattle.ll_values.specs.declared.value.Piece.{Piece}
 use Rattle.ll_values.specs.declared.value.Piece.TheVariants as P
 use Rattle.ll_values.specs.declared.value.Head as code_head
 use Rattle.ll_values.specs.declared.value.Definition.{Definition}
+use Rattle.ll_values.specs.declared.value.Fields.{Fields}
+use Rattle.ll_values.specs.declared.value.Structure.{Structure}
 use Rattle.ll_values.specs.declared.value.Value as code_value
 use Rattle.ll_values.specs.declared.value.Value.TheVariants as V
 use Rattle.ll_values.specs.Lists.{list_at}
-use Rattle.ll_values.specs.Values.{Literal, LocalL, ConstL, Entry, Head, Value, NoneV, TextV, FlagV, WrapsV, TypeV, TypesV, LiteralV, TypedV, SpaceV, PairV, EntryV, EntriesV, InstV, PartV, BodyV, ParamV, ParamsV, HeadV, SourceV, FunctionV, FileV}
+use Rattle.ll_values.specs.Values.{Literal, LocalL, ConstL, Entry, Head, Value, NoneV, TextV, FlagV, WrapsV, TypeV, TypesV, LiteralV, TypedV, SpaceV, PairV, EntryV, EntriesV, InstV, PartV, BodyV, ParamV, ParamsV, HeadV, SourceV, FunctionV, FieldsV, StructV, FileV, are_fields}
 
 -- ---- what is said
 
@@ -31,6 +34,9 @@ module _ (bytes : List ℕ) where
 
   abbrev pub entry_view : code_entry.Entry → Entry
   entry_view e = record { literal = literal_view e.literal; block = text_of bytes e.block }
+
+abbrev pub fields_view : Trees → Store → Fields → StructBody
+fields_view t s b = record { fields = types_at t.types (list_at s.types b.types); layout = b.layout }
 
 module _ (bytes : List ℕ) (t : Trees) (s : Store) where
   abbrev pub entries_at : ℕ → List Entry
@@ -51,6 +57,12 @@ module _ (bytes : List ℕ) (t : Trees) (s : Store) where
 
   abbrev pub params_at : ℕ → List Param
   params_at n = map (param_view bytes t) (list_at s.params n)
+
+  abbrev pub structure_view : Structure → StructLine
+  structure_view x = record { name = text_of bytes x.name; body = option_map (fields_view t s) x.body }
+
+  abbrev pub structs_at : ℕ → List StructLine
+  structs_at n = map structure_view (list_at s.structs n)
 
   abbrev pub head_view : code_head.Head → Head
   head_view h = record { result = type_at t.types h.result; name = text_of bytes h.name; params = params_at h.params }
@@ -82,7 +94,9 @@ module _ (bytes : List ℕ) (t : Trees) (s : Store) where
   value_view (V.Head h) = HeadV (head_view h)
   value_view (V.Source n) = SourceV (text_of bytes n)
   value_view (V.Function d) = FunctionV (definition_view d)
-  value_view (V.File name n) = FileV (record { source = option_map (text_of bytes) name; functions = functions_at n })
+  value_view (V.Fields b) = FieldsV (option_map (fields_view t s) b)
+  value_view (V.Struct x) = StructV (structure_view x)
+  value_view (V.File name k n) = FileV (record { source = option_map (text_of bytes) name; structs = structs_at k; functions = functions_at n })
 
   -- an item before a list, where they are still to be kept
   abbrev pub entries_from : code_entry.Entry → ℕ → Value
@@ -97,15 +111,27 @@ module _ (bytes : List ℕ) (t : Trees) (s : Store) where
   abbrev pub params_from : code_param.Param → ℕ → Value
   params_from p n = ParamsV (param_view bytes t p ∷ params_at n)
 
-  abbrev pub file_from : Definition → ℕ → Value
-  file_from d n = FileV (record { source = None; functions = definition_view d ∷ functions_at n })
+  -- so a struct or a function of a file without a name
+  abbrev pub struct_from : Structure → (structs functions : ℕ) → Value
+  struct_from x k n = FileV (record { source = None; structs = structure_view x ∷ structs_at k; functions = functions_at n })
+
+  abbrev pub file_from : Definition → (structs functions : ℕ) → Value
+  file_from d k n = FileV (record { source = None; structs = structs_at k; functions = definition_view d ∷ functions_at n })
 
 -- ---- what it names is there
+
+-- the types of a list that is there, each of which may be a field
+pub record AreFieldsOf (m : Module) (lists : List (List LLVMType)) (b : Fields) : Type 0 where
+  pub types : b.types ≤ length lists
+  pub fit : are_fields (types_at (trees_of m).types (list_at lists b.types)) ≡ true
 
 module _ (m : Module) (s : Store) where
   abbrev pub IsPieceIn : Piece → Type 0
   IsPieceIn (P.Label n) = Unit {0}
   IsPieceIn (P.Does name i) = i < length s.insts.items
+
+  abbrev pub IsStructureIn : Structure → Type 0
+  IsStructureIn x = IfSome x.body (AreFieldsOf m s.types)
 
   abbrev pub IsHeadIn : code_head.Head → Type 0
   IsHeadIn h = IsTypeIn m h.result × (h.params ≤ length s.params)
@@ -134,7 +160,9 @@ module _ (m : Module) (s : Store) where
   IsValueIn (V.Head h) = IsHeadIn h
   IsValueIn (V.Source n) = Unit {0}
   IsValueIn (V.Function d) = IsDefinitionIn d
-  IsValueIn (V.File name n) = n ≤ length s.functions
+  IsValueIn (V.Fields b) = IfSome b (AreFieldsOf m s.types)
+  IsValueIn (V.Struct x) = IsStructureIn x
+  IsValueIn (V.File name k n) = (k ≤ length s.structs) × (n ≤ length s.functions)
 
   -- what is kept names what is there
   pub record IsStoreIn : Type 0 where
@@ -143,4 +171,5 @@ module _ (m : Module) (s : Store) where
     pub bodies : All (All IsPieceIn) s.bodies
     pub types : All (All (IsTypeIn m)) s.types
     pub params : All (All (λ (p : code_param.Param). IsTypeIn m p.ty)) s.params
+    pub structs : All (All IsStructureIn) s.structs
     pub functions : All (All IsDefinitionIn) s.functions

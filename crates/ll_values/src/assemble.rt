@@ -1,17 +1,24 @@
-//! Functions of lines, from the values of a store.
+//! Structs and functions of lines, from the values of a store.
 
 ghost use Rattle.std.specs.Prelude.{◌≡◌, ◌≤◌, map, length, All, IfOk};
+ghost use Rattle.std.specs.Option.{option_map};
+ghost use Rattle.llvm_core.specs.Sound.{AreFieldsIn};
+ghost use Rattle.llvm_core.specs.Data as trees;
 ghost use Rattle.llvm_core.specs.Data.{trees_of};
 ghost use Rattle.ll_lines.specs.Views as lines;
-ghost use Rattle.ll_lines.specs.Views.{function_view, IsTypeIn, IsPartIn, IsFunctionIn};
+ghost use Rattle.ll_lines.specs.Views.{text_of, struct_view, function_view, file_view, IsTypeIn, IsPartIn, IsStructIn, IsFunctionIn, IsFileIn};
 ghost use Rattle.ll_values.specs.Lists.{list_at};
-ghost use Rattle.ll_values.specs.Views.{part_view, body_at, definition_view, functions_at, IsPieceIn, IsDefinitionIn, IsStoreIn};
+ghost use Rattle.ll_values.specs.Views.{part_view, body_at, fields_view, structure_view, structs_at, definition_view, functions_at, AreFieldsOf, IsPieceIn, IsStructureIn, IsDefinitionIn, IsStoreIn};
 
 use crate::store::Store;
-use crate::value::{Definition, Piece};
-use ll_lines::lines::{Function, Line, Param, Part};
+use crate::types::listed;
+use crate::value::{Definition, Fields, Piece, Structure};
+use ll_lines::lines::{File, Function, Line, Param, Part, StructLine};
+use ll_lines::names::Name;
 use llvm_core::module::LLVMModule;
+use llvm_core::structs::StructFields;
 use std::alloc::{AllocError, Global};
+use support::items::Items;
 
 /// A part of a body.
 fn part(
@@ -104,7 +111,7 @@ fn function(
 
 /// The functions of a file.
 #[inline(never)]
-pub fn functions(
+fn functions(
     alloc: Global,
     m: &LLVMModule,
     store: &Store,
@@ -124,4 +131,99 @@ pub fn functions(
         next = rest;
     }
     Ok(found)
+}
+
+/// The fields of a struct.
+fn struct_fields(
+    alloc: Global,
+    m: &LLVMModule,
+    store: &Store,
+    fields: Fields,
+) -> Result<StructFields, AllocError>
+    requires store { IsStoreIn m.now store.now }
+    requires there { AreFieldsOf m.now store.now.types fields }
+    ensures fields { IfOk result (λ b. trees.fields_of (trees_of m.now).types b ≡ fields_view (trees_of m.now) store.now fields) }
+    ensures there { IfOk result (AreFieldsIn m.now.types) }
+{
+    let types = listed(alloc, m, store, fields.types)?;
+    Ok(StructFields {
+        types: Items::from_vec(types),
+        layout: fields.layout,
+    })
+}
+
+/// A struct.
+fn struct_line(
+    alloc: Global,
+    m: &LLVMModule,
+    store: &Store,
+    bytes: &[u8],
+    structure: Structure,
+) -> Result<StructLine, AllocError>
+    requires store { IsStoreIn m.now store.now }
+    requires there { IsStructureIn m.now store.now structure }
+    ensures line { IfOk result (λ x. struct_view bytes.now (trees_of m.now) x ≡ structure_view bytes.now (trees_of m.now) store.now structure) }
+    ensures there { IfOk result (IsStructIn m.now) }
+{
+    let _ = bytes;
+    let name = structure.name;
+    match structure.body {
+        Some(body) => {
+            let body = struct_fields(alloc, m, store, body)?;
+            Ok(StructLine {
+                name,
+                body: Some(body),
+            })
+        }
+        None => Ok(StructLine { name, body: None }),
+    }
+}
+
+/// The structs of a file.
+#[inline(never)]
+fn structs(
+    alloc: Global,
+    m: &LLVMModule,
+    store: &Store,
+    bytes: &[u8],
+    list: u32,
+) -> Result<Vec<StructLine>, AllocError>
+    requires store { IsStoreIn m.now store.now }
+    requires list { list ≤ length store.now.structs }
+    ensures structs { IfOk result (λ v. map (struct_view bytes.now (trees_of m.now)) v.items ≡ structs_at bytes.now (trees_of m.now) store.now list) }
+    ensures there { IfOk result (λ v. All (IsStructIn m.now) v.items) }
+{
+    let mut found = Vec::with_capacity(alloc, store.structs.count(list))?;
+    let mut next = list;
+    while let Some((structure, rest)) = store.structs.first(next) {
+        let one = struct_line(alloc, m, store, bytes, structure)?;
+        found.push(one)?;
+        next = rest;
+    }
+    Ok(found)
+}
+
+/// A file of that name of the module, and of these structs and functions.
+pub fn file(
+    alloc: Global,
+    m: &LLVMModule,
+    store: &Store,
+    bytes: &[u8],
+    source: Option<Name>,
+    struct_list: u32,
+    function_list: u32,
+) -> Result<File, AllocError>
+    requires store { IsStoreIn m.now store.now }
+    requires struct_list { struct_list ≤ length store.now.structs }
+    requires function_list { function_list ≤ length store.now.functions }
+    ensures file { IfOk result (λ f. file_view bytes.now (trees_of m.now) f ≡ record { source = option_map (text_of bytes.now) source; structs = structs_at bytes.now (trees_of m.now) store.now struct_list; functions = functions_at bytes.now (trees_of m.now) store.now function_list }) }
+    ensures there { IfOk result (IsFileIn m.now) }
+{
+    let structs = structs(alloc, m, store, bytes, struct_list)?;
+    let functions = functions(alloc, m, store, bytes, function_list)?;
+    Ok(File {
+        source,
+        structs,
+        functions,
+    })
 }

@@ -7,6 +7,7 @@ ghost use Rattle.ll_values.specs.Parts.{detail_count, list_count, row_count, typ
 #[derive(Clone, Copy, Drop)]
 pub enum DetailKind {
     Source,
+    Opaque,
     External,
     Space,
     Param,
@@ -27,6 +28,7 @@ pub enum DetailKind {
 pub enum ListKind {
     FileMore,
     FileEnd,
+    Structure,
     Define,
     Head,
     Parameters,
@@ -62,11 +64,14 @@ pub enum RowKind {
 /// What adds types or constants.
 #[derive(Clone, Copy, Drop)]
 pub enum TypedKind {
+    Fields,
+    PackedFields,
     Void,
     Int,
     Pointer,
     Flat,
     Array,
+    Named,
     Struct,
     Vector,
     Scalable,
@@ -98,6 +103,7 @@ impl DetailKind {
     {
         match self {
             DetailKind::Source => 1,
+            DetailKind::Opaque => 0,
             DetailKind::External => 1,
             DetailKind::Space => 1,
             DetailKind::Param => 3,
@@ -123,6 +129,7 @@ impl ListKind {
         match self {
             ListKind::FileMore => 2,
             ListKind::FileEnd => 0,
+            ListKind::Structure => 2,
             ListKind::Define => 5,
             ListKind::Head => 5,
             ListKind::Parameters => 3,
@@ -168,11 +175,14 @@ impl TypedKind {
         ensures { result ≡ typed_count self }
     {
         match self {
+            TypedKind::Fields => 1,
+            TypedKind::PackedFields => 1,
             TypedKind::Void => 0,
             TypedKind::Int => 1,
             TypedKind::Pointer => 1,
             TypedKind::Flat => 1,
             TypedKind::Array => 2,
+            TypedKind::Named => 1,
             TypedKind::Struct => 1,
             TypedKind::Vector => 2,
             TypedKind::Scalable => 2,
@@ -213,7 +223,8 @@ pub static KINDS: [Kind; 541] = [
     // 3: item = 'source_filename' '=' STR
     Kind::Detail(DetailKind::Source),
     Kind::Outside,
-    Kind::Outside,
+    // 5: item = LOCAL '=' 'type' type_body
+    Kind::List(ListKind::Structure),
     Kind::Outside,
     Kind::Outside,
     // 8: item = 'define' define_linkage head function_attrs attachments '{' body '}'
@@ -224,9 +235,12 @@ pub static KINDS: [Kind; 541] = [
     Kind::Outside,
     Kind::Outside,
     Kind::Outside,
-    Kind::Outside,
-    Kind::Outside,
-    Kind::Outside,
+    // 15: type_body = 'opaque'
+    Kind::Detail(DetailKind::Opaque),
+    // 16: type_body = '{' types '}'
+    Kind::Typed(TypedKind::Fields),
+    // 17: type_body = '<' '{' types '}' '>'
+    Kind::Typed(TypedKind::PackedFields),
     Kind::Outside,
     Kind::Outside,
     Kind::Outside,
@@ -506,7 +520,8 @@ pub static KINDS: [Kind; 541] = [
     Kind::Typed(TypedKind::Array),
     // 266: type = '<' angle_type
     Kind::Same,
-    Kind::Outside,
+    // 267: type = LOCAL
+    Kind::Typed(TypedKind::Named),
     // 268: type = '{' types '}'
     Kind::Typed(TypedKind::Struct),
     // 269: solid = INTTYPE
@@ -519,7 +534,8 @@ pub static KINDS: [Kind; 541] = [
     Kind::Typed(TypedKind::Array),
     // 273: solid = '<' angle_type
     Kind::Same,
-    Kind::Outside,
+    // 274: solid = LOCAL
+    Kind::Typed(TypedKind::Named),
     // 275: solid = '{' types '}'
     Kind::Typed(TypedKind::Struct),
     Kind::Outside,

@@ -5,12 +5,12 @@ ghost use Rattle.llvm_core.specs.Data.{trees_of};
 ghost use Rattle.ll_lines.specs.Views.{inst_view, IsTypeIn, IsInstIn};
 ghost use Rattle.ll_values.specs.declared.value.Value.TheVariants as V;
 ghost use Rattle.ll_values.specs.Values.{InstV};
-ghost use Rattle.ll_values.specs.Views.{entries_from, body_from, types_from, params_from, file_from, IsStoreIn, IsPieceIn, IsDefinitionIn};
+ghost use Rattle.ll_values.specs.Views.{entries_from, body_from, types_from, params_from, struct_from, file_from, IsStoreIn, IsPieceIn, IsStructureIn, IsDefinitionIn};
 ghost use Rattle.ll_values.specs.Growing.{Kept};
 
 use crate::planned::Planned;
 use crate::store::Store;
-use crate::value::{Definition, Entry, Piece};
+use crate::value::{Definition, Entry, Piece, Structure};
 use crate::value_err::ValueErr;
 use ll_lines::lines::Param;
 use llvm_core::module::LLVMModule;
@@ -118,22 +118,48 @@ pub fn keep_params(
     Ok(store.params.put(first, rest)?)
 }
 
-/// The number of functions, the first of them before others.
+/// The number of structs, the first of them before others of a file with these functions.
+#[inline(always)]
+pub fn keep_structs(
+    m: &LLVMModule,
+    store: &mut Store,
+    bytes: &[u8],
+    first: Structure,
+    rest: u32,
+    functions: u32,
+) -> Result<u32, ValueErr>
+    requires store { IsStoreIn m.now store.old }
+    requires there { IsStructureIn m.now store.old first }
+    requires rest { rest ≤ length store.old.structs }
+    requires functions { functions ≤ length store.old.functions }
+    ensures kept { IfOk result (λ n. Kept bytes.now m.now store.old store.new (struct_from bytes.now (trees_of m.now) store.old first rest functions) (V.File None n functions)) }
+    ensures memory { OnErr result (result ≡ Err ValueErr.NoMemory) }
+{
+    let _ = m;
+    let _ = bytes;
+    let _ = functions;
+    Ok(store.structs.put(first, rest)?)
+}
+
+/// The number of functions, the first of them before others of a file with these structs.
 #[inline(always)]
 pub fn keep_functions(
     m: &LLVMModule,
     store: &mut Store,
     bytes: &[u8],
     first: Definition,
+    structs: u32,
     rest: u32,
 ) -> Result<u32, ValueErr>
     requires store { IsStoreIn m.now store.old }
     requires there { IsDefinitionIn m.now store.old first }
+    requires structs { structs ≤ length store.old.structs }
     requires rest { rest ≤ length store.old.functions }
-    ensures kept { IfOk result (λ n. Kept bytes.now m.now store.old store.new (file_from bytes.now (trees_of m.now) store.old first rest) (V.File None n)) }
+    ensures kept { IfOk result (λ n. Kept bytes.now m.now store.old store.new (file_from bytes.now (trees_of m.now) store.old first structs rest) (V.File None structs n)) }
     ensures memory { OnErr result (result ≡ Err ValueErr.NoMemory) }
 {
     let _ = m;
     let _ = bytes;
+    let _ = structs;
     Ok(store.functions.put(first, rest)?)
 }

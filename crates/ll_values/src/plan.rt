@@ -44,6 +44,7 @@ pub fn put_detail(alloc: Global, m: &LLVMModule, store: &Store, bytes: &[u8], ki
             _ => Err(ValueErr::NotYet),
         },
         DetailKind::Source => match *stack.first(1) { [Value::Text(n)] => put(alloc, m, store, bytes, Kind::Detail(DetailKind::Source), stack, Value::Source(n)), _ => Err(ValueErr::NotYet) },
+        DetailKind::Opaque => put(alloc, m, store, bytes, Kind::Detail(DetailKind::Opaque), stack, Value::Fields(None)),
         DetailKind::External => match *stack.first(1) { [Value::Text(_)] => put(alloc, m, store, bytes, Kind::Detail(DetailKind::External), stack, Value::Nothing), _ => Err(ValueErr::NotYet) },
     }
 }

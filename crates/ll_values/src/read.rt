@@ -14,7 +14,7 @@ ghost use Rattle.ll_values.specs.Views.{value_view, IsStoreIn};
 ghost use Rattle.ll_values.specs.Stack.{IsStanding};
 ghost use Rattle.ll_values.specs.Growing.{Interns};
 
-use crate::assemble::functions;
+use crate::assemble::file;
 use crate::fold::{Source, fold};
 use crate::form::KINDS;
 use crate::store::Store;
@@ -27,13 +27,13 @@ use ll_tokens::tokens::Token;
 use llvm_core::module::LLVMModule;
 use std::alloc::Global;
 
-/// The name of the module and the number of the functions, where a file is the only value.
-fn file_of(values: &[Value]) -> Option<(Option<Name>, u32)>
-    ensures file { IfSome result (λ p. values.now ≡ V.File p.0 p.1 ∷ []) }
-    ensures none { result ≡ None → (name : Option names.Name) (n : ℕ) → values.now ≡ V.File name n ∷ [] → ⊥ }
+/// The name of the module and the numbers of the structs and of the functions, where a file is the only value.
+fn file_of(values: &[Value]) -> Option<(Option<Name>, u32, u32)>
+    ensures file { IfSome result (λ p. values.now ≡ V.File p.0 p.1 p.2 ∷ []) }
+    ensures none { result ≡ None → (name : Option names.Name) (k n : ℕ) → values.now ≡ V.File name k n ∷ [] → ⊥ }
 {
     match *values {
-        [Value::File(name, list)] => Some((name, list)),
+        [Value::File(name, structs, functions)] => Some((name, structs, functions)),
         _ => None,
     }
 }
@@ -81,11 +81,11 @@ pub fn read_file(
         Ok(values) => values,
         Err(e) => return Err(e),
     };
-    let Some((source, list)) = file_of(values.as_slice()) else {
+    let Some((source, structs, functions)) = file_of(values.as_slice()) else {
         return Err(ValueErr::NotYet);
     };
-    match functions(alloc, m, &store, bytes, list) {
-        Ok(functions) => Ok(File { source, functions }),
+    match file(alloc, m, &store, bytes, source, structs, functions) {
+        Ok(file) => Ok(file),
         Err(_) => Err(ValueErr::NoMemory),
     }
 }

@@ -4,7 +4,7 @@ ghost use Rattle.std.specs.Prelude.{◌≡◌, [], IfOk};
 
 use crate::lists::Lists;
 use crate::planned::Planned;
-use crate::value::{Definition, Entry, Piece};
+use crate::value::{Definition, Entry, Piece, Structure};
 use ll_lines::lines::Param;
 use llvm_core::numbers::LLVMType;
 use std::alloc::{AllocError, Global};
@@ -17,6 +17,7 @@ pub struct Store {
     pub bodies: Lists<Piece>,
     pub types: Lists<LLVMType>,
     pub params: Lists<Param>,
+    pub structs: Lists<Structure>,
     pub functions: Lists<Definition>,
 }
 
@@ -28,6 +29,7 @@ impl Store {
         ensures bodies { IfOk result (λ s. s.bodies ≡ []) }
         ensures types { IfOk result (λ s. s.types ≡ []) }
         ensures params { IfOk result (λ s. s.params ≡ []) }
+        ensures structs { IfOk result (λ s. s.structs ≡ []) }
         ensures functions { IfOk result (λ s. s.functions ≡ []) }
     {
         let room = events / 16;
@@ -37,6 +39,7 @@ impl Store {
             bodies: Lists::with_room(alloc, room)?,
             types: Lists::new(alloc),
             params: Lists::new(alloc),
+            structs: Lists::new(alloc),
             functions: Lists::new(alloc),
         })
     }

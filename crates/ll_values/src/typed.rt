@@ -7,8 +7,8 @@ ghost use Rattle.ll_lines.specs.Views.{incoming_view, IsTypeIn, IsSaidIn};
 ghost use Rattle.ll_values.specs.declared.form.Kind.TheVariants as K;
 ghost use Rattle.ll_values.specs.declared.form.TypedKind.TheVariants as T;
 ghost use Rattle.ll_values.specs.declared.value.Value.TheVariants as V;
-ghost use Rattle.ll_values.specs.Values.{incoming, is_type, typed_by, TypeV, LiteralV};
-ghost use Rattle.ll_values.specs.Views.{literal_view, value_view, entry_view, entries_at, IsValueIn, IsStoreIn};
+ghost use Rattle.ll_values.specs.Values.{incoming, is_type, is_body, typed_by, TypeV, FieldsV, LiteralV};
+ghost use Rattle.ll_values.specs.Views.{literal_view, value_view, entry_view, entries_at, fields_view, AreFieldsOf, IsValueIn, IsStoreIn};
 ghost use Rattle.ll_values.specs.Growing.{Interns, Makes};
 ghost use Rattle.ll_values.specs.Stack.{IsStanding, Puts, MakesNothing};
 
@@ -18,8 +18,10 @@ use crate::planned::Planned;
 use crate::said::{said, type_of};
 use crate::stack::Stack;
 use crate::store::Store;
-use crate::types::{array_kind, flat_kind, int_kind, struct_kind, vector_kind};
-use crate::value::{Entry, Literal, Value};
+use crate::types::{
+    array_kind, fields_of, flat_kind, int_kind, named_kind, struct_kind, vector_kind,
+};
+use crate::value::{Entry, Fields, Literal, Value};
 use crate::value_err::ValueErr;
 use kinds::types::{StructLayout, VectorTypeKind};
 use ll_lines::lines::{Incoming, Said, Typed};
@@ -53,7 +55,8 @@ fn plan_type(alloc: Global, m: &LLVMModule, store: &Store, bytes: &[u8], kind: T
         TypedKind::Scalable => match *parts { [Value::Text(n), Value::Type(ty)] => vector_kind(m, VectorTypeKind::Scalable, n.text(bytes), ty).ok_or(ValueErr::NotYet), _ => Err(ValueErr::NotYet) },
         TypedKind::Struct => match *parts { [Value::Types(n)] => struct_kind(alloc, m, store, StructLayout::Unpacked, n), _ => Err(ValueErr::NotYet) },
         TypedKind::Packed => match *parts { [Value::Types(n)] => struct_kind(alloc, m, store, StructLayout::Packed, n), _ => Err(ValueErr::NotYet) },
-        TypedKind::Typed | TypedKind::Pair | TypedKind::Phi => Err(ValueErr::NotYet),
+        TypedKind::Named => match *parts { [Value::Text(n)] => named_kind(alloc, m, n.text(bytes)), _ => Err(ValueErr::NotYet) },
+        TypedKind::Fields | TypedKind::PackedFields | TypedKind::Typed | TypedKind::Pair | TypedKind::Phi => Err(ValueErr::NotYet),
     }
 }
 
@@ -76,6 +79,39 @@ fn make_type(
         Ok(ty) => Ok(ty),
         Err(e) => Err(e),
     }
+}
+
+/// The fields of a struct that parts make: a line for each layout.
+#[rattlefmt::skip]
+fn plan_fields(m: &LLVMModule, store: &Store, bytes: &[u8], kind: TypedKind, parts: &[Value]) -> Option<Fields>
+    requires store { IsStoreIn m.now store.now }
+    requires parts { All (IsValueIn m.now store.now) parts.now }
+    ensures made { IfSome result (λ b. typed_by kind (map (value_view bytes.now (trees_of m.now) store.now) parts.now) ≡ Some (FieldsV (Some (fields_view (trees_of m.now) store.now b)))) }
+    ensures there { IfSome result (AreFieldsOf m.now store.now.types) }
+    ensures none { result ≡ None → is_body kind ≡ true → typed_by kind (map (value_view bytes.now (trees_of m.now) store.now) parts.now) ≡ None }
+{
+    let _ = bytes;
+    match kind {
+        TypedKind::Fields => match *parts { [Value::Types(n)] => fields_of(m, store, StructLayout::Unpacked, n), _ => None },
+        TypedKind::PackedFields => match *parts { [Value::Types(n)] => fields_of(m, store, StructLayout::Packed, n), _ => None },
+        _ => None,
+    }
+}
+
+/// The fields of a struct that parts make.
+fn make_fields(
+    m: &LLVMModule,
+    store: &Store,
+    bytes: &[u8],
+    kind: TypedKind,
+    parts: &[Value],
+) -> Result<Fields, ValueErr>
+    requires store { IsStoreIn m.now store.now }
+    requires parts { All (IsValueIn m.now store.now) parts.now }
+    ensures made { IfOk result (λ b. Makes bytes.now m.now m.now store.now store.now (K.Typed kind) parts.now (V.Fields (Some b))) }
+    ensures not_yet { result ≡ Err ValueErr.NotYet → is_body kind ≡ true → typed_by kind (map (value_view bytes.now (trees_of m.now) store.now) parts.now) ≡ None }
+{
+    plan_fields(m, store, bytes, kind, parts).ok_or(ValueErr::NotYet)
 }
 
 /// A literal at a type.
@@ -185,31 +221,22 @@ fn make_phi(
 }
 
 /// Types, and what a literal takes its type from, each put in place of the parts that it is made of.
-pub fn put_typed(
-    alloc: Global,
-    m: &mut LLVMModule,
-    store: &mut Store,
-    bytes: &[u8],
-    kind: TypedKind,
-    stack: &mut Stack,
-) -> Result<(), ValueErr>
+#[rattlefmt::skip]
+pub fn put_typed(alloc: Global, m: &mut LLVMModule, store: &mut Store, bytes: &[u8], kind: TypedKind, stack: &mut Stack) -> Result<(), ValueErr>
     requires standing { IsStanding m.old store.old stack.old }
     ensures puts { OnOk result (Puts bytes.now m.old m.new store.old store.new (K.Typed kind) stack.old stack.new) }
     ensures not_yet { result ≡ Err ValueErr.NotYet → MakesNothing bytes.now m.old store.old (K.Typed kind) stack.old }
 {
     match kind {
-        TypedKind::Void
-        | TypedKind::Int
-        | TypedKind::Pointer
-        | TypedKind::Flat
-        | TypedKind::Array
-        | TypedKind::Vector
-        | TypedKind::Scalable
-        | TypedKind::Struct
-        | TypedKind::Packed => {
+        TypedKind::Void | TypedKind::Int | TypedKind::Pointer | TypedKind::Flat | TypedKind::Array | TypedKind::Named | TypedKind::Vector | TypedKind::Scalable | TypedKind::Struct | TypedKind::Packed => {
             let count = kind.part_count();
             let ty = make_type(alloc, m, store, bytes, kind, stack.first(count))?;
             stack.replace(alloc, count, Value::Type(ty))?;
+        }
+        TypedKind::Fields | TypedKind::PackedFields => {
+            let count = kind.part_count();
+            let fields = make_fields(m, store, bytes, kind, stack.first(count))?;
+            stack.replace(alloc, count, Value::Fields(Some(fields)))?;
         }
         TypedKind::Typed => match *stack.first(2) {
             [Value::Type(ty), Value::Literal(a)] => {

@@ -1,6 +1,7 @@
 //! Kinds of types, by what they are made of.
 
 ghost use Rattle.std.specs.Prelude.{◌≡◌, ◌≤◌, ◌<◌, true, Some, None, Err, All, IfOk, IfSome, IsTrue, length};
+ghost use Rattle.std.specs.Option.{option_map};
 ghost use Rattle.kinds.specs.Types.{shape};
 ghost use Rattle.kinds.specs.Fitting.{is_field};
 ghost use Rattle.llvm_core.specs.Parts.{shape_at, IsTypeOver, HasFitParts};
@@ -9,21 +10,24 @@ ghost use Rattle.llvm_core.specs.Data.{trees_of, type_at, types_at, type_tree};
 ghost use Rattle.llvm_core.specs.declared.numbers.LLVMType.{LLVMType};
 ghost use Rattle.ll_lines.specs.Views.{IsTypeIn};
 ghost use Rattle.ll_values.specs.Lists.{list_at};
-ghost use Rattle.ll_values.specs.Values.{int_type, array_type, vector_type, are_fields, struct_of};
+ghost use Rattle.ll_values.specs.Values.{int_type, array_type, vector_type, are_fields, struct_of, named_type, body_of};
 ghost use Rattle.ll_values.specs.Words.{flat_type};
-ghost use Rattle.ll_values.specs.Views.{IsStoreIn};
+ghost use Rattle.ll_values.specs.Views.{fields_view, AreFieldsOf, IsStoreIn};
 
 use crate::store::Store;
+use crate::value::Fields;
 use crate::value_err::ValueErr;
 use crate::words::{Flat, flat_of, int_width};
 use kinds::fitting::{Shape, is_array_of, is_field, is_vector_of};
 use kinds::types::{StructLayout, VectorTypeKind};
 use ll_literals::numbers::number;
+use ll_literals::symbols::symbol_name;
 use llvm_core::module::{LLVMModule, shape_of};
 use llvm_core::numbers::LLVMType;
 use llvm_core::types::LLVMTypeKind;
 use std::alloc::{AllocError, Global};
 use support::items::Items;
+use support::text::Text;
 
 /// What rules look at in a type.
 fn shape_in(m: &LLVMModule, ty: LLVMType) -> Shape
@@ -58,6 +62,20 @@ pub fn int_kind(m: &LLVMModule, text: &[u8]) -> Option<LLVMTypeKind>
 {
     let _ = m;
     Some(LLVMTypeKind::Int(int_width(text)?))
+}
+
+/// The struct that a token names.
+pub fn named_kind(alloc: Global, m: &LLVMModule, token: &[u8]) -> Result<LLVMTypeKind, ValueErr>
+    ensures made { IfOk result (λ k. named_type token.now ≡ Some (type_tree (trees_of m.now).types k)) }
+    ensures over { IfOk result (IsTypeOver (length m.now.types)) }
+    ensures fit { IfOk result (HasFitParts m.now.types) }
+    ensures not_yet { result ≡ Err ValueErr.NotYet → named_type token.now ≡ None }
+{
+    let _ = m;
+    let Some(name) = symbol_name(alloc, token)? else {
+        return Err(ValueErr::NotYet);
+    };
+    Ok(LLVMTypeKind::Named(Text::copy(alloc, name.as_str())?))
 }
 
 /// So many of a type, where they make an array.
@@ -98,7 +116,7 @@ pub fn vector_kind(
 }
 
 /// The types of a list.
-fn listed(
+pub fn listed(
     alloc: Global,
     m: &LLVMModule,
     store: &Store,
@@ -156,4 +174,33 @@ pub fn struct_kind(
         fields: Items::from_vec(types),
         layout,
     })
+}
+
+/// Whether each type of a list may be a field.
+fn list_fits(m: &LLVMModule, store: &Store, list: u32) -> bool
+    requires store { IsStoreIn m.now store.now }
+    requires list { list ≤ length store.now.types }
+    ensures { result ≡ are_fields (types_at (trees_of m.now).types (list_at store.now.types list)) }
+{
+    let mut next = list;
+    while let Some((ty, rest)) = store.types.first(next) {
+        if !is_field(shape_in(m, ty)) {
+            return false;
+        }
+        next = rest;
+    }
+    true
+}
+
+/// Types, where they may be the fields of a struct.
+pub fn fields_of(m: &LLVMModule, store: &Store, layout: StructLayout, types: u32) -> Option<Fields>
+    requires store { IsStoreIn m.now store.now }
+    requires types { types ≤ length store.now.types }
+    ensures made { option_map (fields_view (trees_of m.now) store.now) result ≡ body_of layout (types_at (trees_of m.now).types (list_at store.now.types types)) }
+    ensures there { IfSome result (AreFieldsOf m.now store.now.types) }
+{
+    if !list_fits(m, store, types) {
+        return None;
+    }
+    Some(Fields { types, layout })
 }

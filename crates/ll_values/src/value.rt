@@ -1,6 +1,7 @@
 //! The values of a text, as they stand on a stack: what is longer is a number of a store.
 
 use kinds::op::OverflowFlags;
+use kinds::types::StructLayout;
 use ll_lines::lines::{Param, Said, Typed};
 use ll_lines::names::Name;
 use llvm_core::numbers::LLVMType;
@@ -44,6 +45,20 @@ pub struct Definition {
     pub body: u32,
 }
 
+/// The fields of a struct, with the number of their types.
+#[derive(Clone, Copy, Drop)]
+pub struct Fields {
+    pub types: u32,
+    pub layout: StructLayout,
+}
+
+/// A struct; one without fields is opaque.
+#[derive(Clone, Copy, Drop)]
+pub struct Structure {
+    pub name: Name,
+    pub body: Option<Fields>,
+}
+
 /// A value. Numbers are those of lists and instructions of a store.
 #[derive(Clone, Copy, Drop)]
 pub enum Value {
@@ -69,6 +84,9 @@ pub enum Value {
     Head(Head),
     Source(Name),
     Function(Definition),
-    /// The name of the module and the functions.
-    File(Option<Name>, u32),
+    /// The fields of a struct, none where it is opaque.
+    Fields(Option<Fields>),
+    Struct(Structure),
+    /// The name of the module, the structs and the functions.
+    File(Option<Name>, u32, u32),
 }

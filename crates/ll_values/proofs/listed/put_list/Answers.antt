@@ -4,7 +4,7 @@ use Rattle.llvm_core.specs.Data.{trees_of}
 use Rattle.ll_values.specs.declared.form.Kind.TheVariants as K
 use Rattle.ll_values.specs.declared.form.ListKind.TheVariants as L
 use Rattle.ll_values.specs.declared.value.Value.TheVariants as V
-use Rattle.ll_values.specs.Views.{entries_from, body_from, types_from, params_from, file_from, IsValueIn}
+use Rattle.ll_values.specs.Views.{entries_from, body_from, types_from, params_from, IsValueIn}
 use Rattle.ll_values.proofs.StackLaws.{parts_there, puts_kept, puts_none}
 use Rattle.ll_values.proofs.listed.put_list.Goals as goal
 
@@ -52,16 +52,21 @@ returns-in_ok-replace-in-Param-clause-puts c =
     let parts : c.first-in-ParamsMore.result.now ≡ V.Param c.in-Param.first ∷ V.Params c.in-Param.rest ∷ [] = search rules in
     rw c.in-ParamsMore.is (puts_kept c.args.bytes.now (K.List L.ParamsMore) c.args.m.now c.args.store.now c.args.stack.now _ _ _ (params_from c.args.bytes.now (trees_of c.args.m.now) c.args.store.now c.in-Param.first c.in-Param.rest) _ c.requires.standing (sym parts ∙ c.first-in-ParamsMore.ensures) refl c.in_ok-number-in-Param.ensures.kept c.in_ok-replace-in-Param.ensures)
 
-pub keep_functions-requires-clause-rest : goal.keep_functions-requires-clause-rest
-keep_functions-requires-clause-rest c =
-    let parts : c.first-in-FileMore.result.now ≡ V.Function c.in-Function.first ∷ V.File None c.in-Function.rest ∷ [] = search rules in
-    let all = parts_there (IsValueIn c.args.m.now c.args.store.now) 2 c.args.stack.now _ c.requires.standing.values (sym parts ∙ c.first-in-FileMore.ensures) in
+pub put-requires-in-Text-clause-there : goal.put-requires-in-Text-clause-there
+put-requires-in-Text-clause-there c =
+    let parts : c.first-in-Structure.result.now ≡ V.Text c.in-Text.name ∷ V.Fields c.in-Text.body ∷ [] = search rules in
+    let all = parts_there (IsValueIn c.args.m.now c.args.store.now) 2 c.args.stack.now _ c.requires.standing.values (sym parts ∙ c.first-in-Structure.ensures) in
     all 1 V.Nothing (omega arith)
 
-pub returns-in_ok-replace-in-Function-clause-puts : goal.returns-in_ok-replace-in-Function-clause-puts
-returns-in_ok-replace-in-Function-clause-puts c =
-    let parts : c.first-in-FileMore.result.now ≡ V.Function c.in-Function.first ∷ V.File None c.in-Function.rest ∷ [] = search rules in
-    rw c.in-FileMore.is (puts_kept c.args.bytes.now (K.List L.FileMore) c.args.m.now c.args.store.now c.args.stack.now _ _ _ (file_from c.args.bytes.now (trees_of c.args.m.now) c.args.store.now c.in-Function.first c.in-Function.rest) _ c.requires.standing (sym parts ∙ c.first-in-FileMore.ensures) refl c.in_ok-number-in-Function.ensures.kept c.in_ok-replace-in-Function.ensures)
+pub put_struct-requires-clause-parts : goal.put_struct-requires-clause-parts
+put_struct-requires-clause-parts c =
+    let parts : c.first-in-FileMore.result.now ≡ V.Struct c.in-Struct.first ∷ V.File None c.in-Struct.rest c.in-Struct.functions ∷ [] = search rules in
+    sym c.first-in-FileMore.ensures ∙ parts
+
+pub put_function-requires-clause-parts : goal.put_function-requires-clause-parts
+put_function-requires-clause-parts c =
+    let parts : c.first-in-FileMore.result.now ≡ V.Function c.in-Function.first ∷ V.File None c.in-Function.structs c.in-Function.rest ∷ [] = search rules in
+    sym c.first-in-FileMore.ensures ∙ parts
 
 pub put-requires-in-Some-clause-there : goal.put-requires-in-Some-clause-there
 put-requires-in-Some-clause-there c =
@@ -81,6 +86,6 @@ returns-in-None-definition_of-clause-not_yet c = λ e. rw c.in-Define.is (puts_n
 
 pub put-requires-in-Source-clause-there : goal.put-requires-in-Source-clause-there
 put-requires-in-Source-clause-there c =
-    let parts : c.first-in-FileMore.result.now ≡ V.Source c.in-Source.name ∷ V.File None c.in-Source.n ∷ [] = search rules in
+    let parts : c.first-in-FileMore.result.now ≡ V.Source c.in-Source.name ∷ V.File None c.in-Source.structs c.in-Source.functions ∷ [] = search rules in
     let all = parts_there (IsValueIn c.args.m.now c.args.store.now) 2 c.args.stack.now _ c.requires.standing.values (sym parts ∙ c.first-in-FileMore.ensures) in
     all 1 V.Nothing (omega arith)
