@@ -8,6 +8,7 @@ pub mod NumberLaws
 pub mod OwnLaws
 pub mod PartLaws
 pub mod PositionLaws
+pub mod StructLaws
 pub mod SpelledLaws
 pub mod StrungLaws
 pub mod FieldLaws

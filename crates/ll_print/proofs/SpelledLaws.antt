@@ -4,17 +4,17 @@ use Rattle.std.specs.Prelude.{OnOk}
 use Rattle.std.specs.List.{flat_map}
 use Rattle.std.specs.Str.{is_utf8}
 use Rattle.std.proofs.lemmas.List.{append-nil}
-use Rattle.llvm_core.specs.Data.{Function, ModuleData}
+use Rattle.llvm_core.specs.Data.{Function, Struct, ModuleData}
 use Rattle.kinds.specs.Types.{result_of}
 use Rattle.llvm_core.specs.Form.{IsForm, HasDistinctNames}
 use Rattle.ll_literals.specs.Text.{Text}
-use Rattle.ll_literals.specs.Names.{global, printed_name, printed_text}
+use Rattle.ll_literals.specs.Names.{global, local, printed_name, printed_text}
 use Rattle.ll_said.specs.Said.{file_of}
 use Rattle.ll_said.proofs.FileLaws.{sayable_from}
 use Rattle.ll_said.proofs.TwinLaws.{text_says}
 use Rattle.ll_written.proofs.PrintLaws.{printed_is_read}
 use Rattle.ll_text.specs.Spelling.{Spells}
-use Rattle.ll_print.specs.Printing.{type_text, params_text, blocks_text, function_text, source_text, module_text, EndsLine}
+use Rattle.ll_print.specs.Printing.{type_text, params_text, blocks_text, function_text, source_text, body_text, struct_text, structs_text, module_text, EndsLine}
 use Rattle.ll_print.specs.Parts.{AreNumberable}
 
 -- what is printed is read as what the data say, which means their twin
@@ -38,13 +38,24 @@ source_ends : (n : Text) → n ≢ [] → EndsLine (source_text n)
 source_ends [] h = absurd (h refl)
 source_ends (b ∷ bs) h = (codes "source_filename = " ++ printed_text (b ∷ bs), refl)
 
-module_ends : (n : Text) (fs : List Function) → n ≢ [] → EndsLine (source_text n ++ flat_map function_text fs)
-module_ends n [] h = subst EndsLine (sym (append-nil (source_text n))) (source_ends n h)
-module_ends n (f ∷ fs) h = more_ends (source_text n) (flat_map function_text (f ∷ fs)) (functions_end f fs)
+struct_ends : (s : Struct) → EndsLine (struct_text s)
+struct_ends s = (local (printed_name s.name) ++ codes " = type " ++ body_text s.body, refl)
+
+structs_end : (s : Struct) (ss : List Struct) → EndsLine (flat_map struct_text (s ∷ ss))
+structs_end s [] = subst EndsLine (sym (append-nil (struct_text s))) (struct_ends s)
+structs_end s (t ∷ ss) = more_ends (struct_text s) (flat_map struct_text (t ∷ ss)) (structs_end t ss)
+
+front_ends : (n : Text) (ss : List Struct) → n ≢ [] → EndsLine (source_text n ++ structs_text ss)
+front_ends n [] h = subst EndsLine (sym (append-nil (source_text n))) (source_ends n h)
+front_ends n (s ∷ ss) h = more_ends (source_text n) (structs_text (s ∷ ss)) (more_ends (codes "\n") (flat_map struct_text (s ∷ ss)) (structs_end s ss))
+
+module_ends : (n : Text) (ss : List Struct) (fs : List Function) → n ≢ [] → EndsLine (source_text n ++ structs_text ss ++ flat_map function_text fs)
+module_ends n ss [] h = subst EndsLine (sym (append-nil (source_text n ++ structs_text ss))) (front_ends n ss h)
+module_ends n ss (f ∷ fs) h = more_ends (source_text n ++ structs_text ss) (flat_map function_text (f ∷ fs)) (functions_end f fs)
 
 -- the last line of a module with a name has an end
 pub module_lines : (d : ModuleData) → d.name ≢ [] → EndsLine (module_text d)
-module_lines d h = module_ends d.name d.functions h
+module_lines d h = module_ends d.name d.structs d.functions h
 
 -- what holds anyway holds where a result is Ok
 pub on_ok_of : {T E P : Type 0} (r : Result T E) → P → OnOk r P

@@ -1,8 +1,9 @@
 -- Parts of a module's data by their numbers, and their texts.
-use Rattle.std.specs.Prelude.{◌≡◌, ◌<◌, ◌≤◌, ℕ, zero, suc, List, [], ◌∷◌, ◌++◌, All, length, codes, slice_get, slice_index_or, Some, IfSome, decimal}
+use Rattle.std.specs.Prelude.{◌≡◌, ◌<◌, ◌≤◌, ℕ, zero, suc, List, [], ◌∷◌, ◌++◌, All, length, codes, slice_get, slice_index_or, Some, None, IfSome, decimal}
 use Rattle.std.specs.List.{flat_map}
 use Rattle.std.specs.Option.{option_map_or}
 use Rattle.llvm_core.specs.declared.numbers.LLVMType.{LLVMType}
+use Rattle.llvm_core.specs.declared.numbers.LLVMStruct.{LLVMStruct}
 use Rattle.llvm_core.specs.declared.numbers.LLVMFunction.{LLVMFunction}
 use Rattle.llvm_core.specs.declared.numbers.LLVMBasicBlock.{LLVMBasicBlock}
 use Rattle.llvm_core.specs.declared.numbers.LLVMInstRef.{LLVMInstRef}
@@ -11,12 +12,13 @@ use Rattle.llvm_core.specs.declared.code.LLVMValue.TheVariants as V
 use Rattle.llvm_core.specs.declared.code.LLVMInst.{LLVMInst}
 use Rattle.llvm_core.specs.declared.code.LLVMInst.TheVariants as I
 use Rattle.llvm_core.specs.declared.code.PhiEntry.{PhiEntry}
+use Rattle.llvm_core.specs.declared.structs.StructData.{StructData}
 use Rattle.llvm_core.specs.declared.code.FunctionData.{FunctionData}
 use Rattle.llvm_core.specs.declared.code.BlockData.{BlockData}
 use Rattle.llvm_core.specs.declared.code.InstData.{InstData}
 use Rattle.llvm_core.specs.Module.{Module}
 use Rattle.llvm_core.specs.Sound.{IsModule}
-use Rattle.llvm_core.specs.Data.{Placed, Block, Function, ModuleData, trees_of, type_at, param_type, placed_at, block_at, function_of, placed_in}
+use Rattle.llvm_core.specs.Data.{Placed, Block, Function, Struct, ModuleData, struct_of, trees_of, type_at, param_type, placed_at, block_at, function_of, placed_in}
 use Rattle.llvm_core.specs.Form.{HasNumber}
 use Rattle.kinds.specs.declared.types.StructLayout.{StructLayout}
 use Rattle.kinds.specs.Types.{result_of}
@@ -32,6 +34,13 @@ no_function = record { name = []; ty = record { 0 = 0 }; space = 0; params = [];
 -- the function of a number
 abbrev pub function_in : Module → LLVMFunction → Function
 function_in m f = function_of (trees_of m) m.blocks m.insts (f.0, slice_index_or m.functions f.0 no_function)
+
+abbrev pub no_struct : StructData
+no_struct = record { name = []; body = None }
+
+-- the struct of a number
+abbrev pub struct_in : Module → LLVMStruct → Struct
+struct_in m s = struct_of (trees_of m).types (slice_index_or m.structs s.0 no_struct)
 
 -- ---- texts of parts
 
@@ -74,6 +83,11 @@ label_line name number = bare_text name number ++ codes ":\n"
 abbrev pub entry_label_line : List ℕ → ℕ → List ℕ
 entry_label_line [] number = []
 entry_label_line (b ∷ bs) number = label_line (b ∷ bs) number
+
+-- what stands before so many structs: a blank line, where there are any
+abbrev pub blank_text : (structs : ℕ) → List ℕ
+blank_text zero = []
+blank_text (suc n) = codes "\n"
 
 -- what stands before the field at a place
 abbrev pub gap_text : (place : ℕ) → List ℕ

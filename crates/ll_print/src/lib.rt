@@ -9,4 +9,5 @@ pub mod numbers;
 pub mod operands;
 pub mod places;
 pub mod printer;
+pub mod structs;
 pub mod types;

@@ -10,6 +10,7 @@ ghost use Rattle.ll_print.specs.Printing.{source_text, module_text, EndsLine};
 ghost use Rattle.ll_print.specs.Parts.{AreNumberable};
 
 use crate::functions::put_function;
+use crate::structs::put_structs;
 use ll_literals::printed::put_text;
 use llvm_core::module::LLVMModule;
 use llvm_core::numbers::LLVMFunction;
@@ -41,6 +42,7 @@ fn put_module(alloc: Global, m: &LLVMModule, out: &mut Vec<u8>) -> Result<(), Al
     ensures numbers { OnOk result (AreNumberable (data_of m.now)) }
 {
     put_source(m.name(), out)?;
+    put_structs(m, out)?;
     for f in 0..m.functions() {
         put_function(alloc, m, LLVMFunction(f), out)?;
     }

@@ -5,12 +5,14 @@ ghost use Rattle.kinds.specs.Held.{is_void};
 ghost use Rattle.support.specs.Appended.{Keeps};
 ghost use Rattle.llvm_core.specs.Sound.{IsModule};
 ghost use Rattle.llvm_core.specs.Data.{trees_of, type_at, types_at, StructType};
+ghost use Rattle.ll_literals.specs.Names.{local, printed_name};
 ghost use Rattle.ll_print.specs.Printing.{floating_text, other_text, space_text, vector_open, struct_open, counted_text, fields_text, type_text};
 ghost use Rattle.ll_print.specs.Parts.{gap_text, close_text};
 
 use itoa::Buffer;
 use kinds::fitting::is_nothing;
 use kinds::types::{Floating, OtherType, StructLayout, VectorTypeKind};
+use ll_literals::printed::put_name;
 use llvm_core::module::{LLVMModule, shape_of};
 use llvm_core::numbers::LLVMType;
 use llvm_core::types::LLVMTypeKind;
@@ -244,6 +246,16 @@ fn put_counted(
     Ok(())
 }
 
+/// `%` and the name of a struct.
+#[inline(never)]
+pub fn put_named(name: &str, out: &mut Vec<u8>) -> Result<(), AllocError>
+    ensures text { OnOk result (out.new.items ≡ out.old.items ++ local (printed_name name.now)) }
+    ensures kept { Keeps out.old.items out.new.items }
+{
+    out.push(b'%')?;
+    put_name(name.as_bytes(), out)
+}
+
 /// The fields of a struct.
 #[cycle(put_type)]
 fn put_fields(m: &LLVMModule, fields: &[LLVMType], out: &mut Vec<u8>) -> Result<(), AllocError>
@@ -259,10 +271,10 @@ fn put_fields(m: &LLVMModule, fields: &[LLVMType], out: &mut Vec<u8>) -> Result<
     Ok(())
 }
 
-/// A struct.
+/// A struct by its fields.
 #[cycle(put_type)]
 #[inline(never)]
-fn put_struct(
+pub fn put_struct(
     m: &LLVMModule,
     layout: StructLayout,
     fields: &[LLVMType],
@@ -306,6 +318,7 @@ pub fn put_type(m: &LLVMModule, ty: LLVMType, out: &mut Vec<u8>) -> Result<(), A
             )
         }
         LLVMTypeKind::Literal { fields, layout } => put_struct(m, *layout, fields.as_slice(), out),
+        LLVMTypeKind::Named(name) => put_named(name.as_str(), out),
         LLVMTypeKind::Function { .. } => Ok(()),
     }
 }

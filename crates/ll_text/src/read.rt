@@ -73,7 +73,7 @@ fn read_lines(
 
 /// Gives an empty module what the lines of a text mean.
 fn fill(alloc: Global, m: &mut LLVMModule, bytes: &[u8]) -> Result<(), ReadErr>
-    requires { (data_of m.old).functions ≡ [] }
+    requires { ((data_of m.old).structs ≡ []) × ((data_of m.old).functions ≡ []) }
     ensures means { OnOk result (Means bytes.now (data_of m.new)) }
     ensures sound { OnOk result (IsModule m.new) }
     ensures not_yet { result ≡ Err errors.NotYet → (d : ModuleData) → ¬ Means bytes.now d }

@@ -39,7 +39,7 @@ entries_say τ (e ∷ es) all = P.more_entries_entry_or_node [] (P.entry_or_node
 phi_says : (b : Text) (τ : TypeTree) (es : List Incoming) → IsInst (L.Phi τ es) → Reads N.inst (InstV (L.Phi τ es)) (written_inst b (L.Phi τ es))
 phi_says b τ [] h = absurd (h.2 refl)
 phi_says b τ (e ∷ es) h =
-    P.inst_phi b (type_says (codes " ") τ h.0) (entry_says τ e h.1.0) (entries_say τ es h.1.1) (ap (λ (o : Option (List Incoming)). o >>= λ xs. Some (InstV (L.Phi τ xs))) (entries_again τ (e ∷ es) h.0 h.1))
+    P.inst_phi b (type_says (codes " ") τ h.0) (entry_says τ e h.1.0) (entries_say τ es h.1.1) (ap (λ (o : Option (List Incoming)). o >>= λ xs. Some (InstV (L.Phi τ xs))) (entries_again τ (e ∷ es) h.0.type h.1))
 
 pub inst_says : (b : Text) (i : Inst) → IsInst i → Reads N.inst (InstV i) (written_inst b i)
 inst_says b (L.Phi τ es) h = phi_says b τ es h

@@ -1,24 +1,25 @@
 -- The text of the tokens of what module data say is the printed text.
-use Rattle.std.proofs.Common.{◌≡◌, ◌≢◌, ℕ, suc, true, List, [], ◌∷◌, ◌++◌, map, Some, codes, append_assoc, refl, sym, ap, ◌∙◌}
+use Rattle.std.proofs.Common.{◌≡◌, ◌≢◌, ℕ, suc, true, List, [], ◌∷◌, ◌++◌, map, Option, Some, None, codes, append_assoc, refl, sym, ap, ◌∙◌}
 use Rattle.std.specs.List.{flat_map, AllByRecursion}
 use Rattle.std.proofs.lemmas.List.{append-nil}
 use Rattle.std.proofs.lemmas.List.Elements.{recursion_from_All}
-use Rattle.kinds.specs.Types.{TypeTree, result_of}
+use Rattle.kinds.specs.Types.{TypeTree, StructType, result_of}
+use Rattle.kinds.specs.Structs.{StructBody, Struct}
 use Rattle.llvm_core.specs.Data.{Placed, Block, Function, ModuleData, param_type}
 use Rattle.llvm_core.specs.Checked.{ends_in_only}
 use Rattle.llvm_core.specs.Form.{is_last, IsFormPlaced, IsFormBlock, IsFormFunction}
 use Rattle.ll_lines.specs.Lines as L
 use Rattle.ll_lines.specs.Lines.{Text, Part}
 use Rattle.ll_said.specs.Naming.{ParamAt, local_text}
-use Rattle.ll_said.specs.Said.{line_of, lines_of, label_of, entry_label, block_parts, parts_of, params_of, function_of, source_of, file_of}
+use Rattle.ll_said.specs.Said.{line_of, lines_of, label_of, entry_label, block_parts, parts_of, params_of, function_of, struct_of, source_of, file_of}
 use Rattle.ll_said.specs.Sayable.{IsSayable, IsSayableModule}
 use Rattle.ll_spacing.specs.Spacing.{Spaced, text_of}
 use Rattle.ll_tokens.specs.declared.kinds.Kind.TheVariants as T
-use Rattle.ll_literals.specs.Names.{global, printed_name, printed_text}
+use Rattle.ll_literals.specs.Names.{global, local, printed_name, printed_text}
 use Rattle.ll_written.specs.Printing as P
-use Rattle.ll_written.specs.Written.{token, close, apart, written_type, next_part, written_body, written_param, next_param, written_params, written_function, next_function, written_source, written_file, written, end_of}
+use Rattle.ll_written.specs.Written.{token, close, apart, written_type, next_part, written_body, written_param, next_param, written_params, written_function, next_function, written_struct_body, written_struct, next_struct, written_structs, written_source, written_file, written, end_of}
 use Rattle.ll_written.proofs.RowTexts.{joined, type_then}
-use Rattle.ll_written.proofs.TypeTokens.{text_both}
+use Rattle.ll_written.proofs.TypeTokens.{text_both, type_written}
 use Rattle.ll_written.proofs.LineTexts.{line_text}
 
 -- ---- what ends its lines in place of beginning them
@@ -26,10 +27,13 @@ use Rattle.ll_written.proofs.LineTexts.{line_text}
 abbrev Turns : List Spaced → Text → Type 0
 Turns xs t = text_of xs ++ codes "\n" ≡ codes "\n" ++ t
 
-turns_both : (xs ys : List Spaced) (t u : Text) → Turns xs t → Turns ys u → Turns (xs ++ ys) (t ++ u)
-turns_both xs ys t u e f =
+ends_both : (xs ys : List Spaced) (t u : Text) → text_of xs ++ codes "\n" ≡ t → Turns ys u → text_of (xs ++ ys) ++ codes "\n" ≡ t ++ u
+ends_both xs ys t u e f =
     ap (λ (s : Text). s ++ codes "\n") (text_both xs ys) ∙ append_assoc (text_of xs) (text_of ys) (codes "\n") ∙ ap (λ (s : Text). text_of xs ++ s) f
-    ∙ sym (append_assoc (text_of xs) (codes "\n") u) ∙ ap (λ (s : Text). s ++ u) e ∙ append_assoc (codes "\n") t u
+    ∙ sym (append_assoc (text_of xs) (codes "\n") u) ∙ ap (λ (s : Text). s ++ u) e
+
+turns_both : (xs ys : List Spaced) (t u : Text) → Turns xs t → Turns ys u → Turns (xs ++ ys) (t ++ u)
+turns_both xs ys t u e f = ends_both xs ys (codes "\n" ++ t) u e f ∙ append_assoc (codes "\n") t u
 
 turns_each : {A B : Type 0} (Q : B → Type 0) (f : A → List Spaced) (of : B → A) (g : B → Text) → ((x : B) → Q x → Turns (f (of x)) (g x)) → (xs : List B) → AllByRecursion Q xs → Turns (flat_map f (map of xs)) (flat_map g xs)
 turns_each Q f of g turns [] all = refl
@@ -148,22 +152,47 @@ function_turns f h = function_at f (codes "\n\n") (all_lined f h.form)
 functions_turn : (fs : List Function) → AllByRecursion IsSayable fs → Turns (flat_map next_function (map function_of fs)) (flat_map P.function_text fs)
 functions_turn fs all = turns_each IsSayable next_function function_of P.function_text function_turns fs all
 
+-- ---- structs
+
+struct_body_text : (b : Option StructBody) → text_of (written_struct_body b) ≡ codes " " ++ P.body_text b
+struct_body_text None = refl
+struct_body_text (Some b) = type_written (codes " ") (StructType b.layout b.fields)
+
+-- a struct, behind the line end before it
+struct_at : (b : Text) (s : Struct) → text_of (written_struct b (struct_of s)) ++ codes "\n" ≡ b ++ P.struct_text s
+struct_at b s = ap (λ (t : Text). b ++ local (printed_name s.name) ++ (codes " = type" ++ t) ++ codes "\n") (struct_body_text s.body) ∙ simp append_assoc
+
+next_structs_turn : (ss : List Struct) → Turns (flat_map next_struct (map struct_of ss)) (flat_map P.struct_text ss)
+next_structs_turn [] = refl
+next_structs_turn (s ∷ ss) = turns_both (next_struct (struct_of s)) (flat_map next_struct (map struct_of ss)) (P.struct_text s) (flat_map P.struct_text ss) (struct_at (codes "\n") s) (next_structs_turn ss)
+
+-- behind the name of the module they stand after a blank line
+structs_turn : (ss : List Struct) → Turns (written_structs (codes "\n\n") (map struct_of ss)) (P.structs_text ss)
+structs_turn [] = refl
+structs_turn (s ∷ ss) = turns_both (written_struct (codes "\n\n") (struct_of s)) (flat_map next_struct (map struct_of ss)) (codes "\n" ++ P.struct_text s) (flat_map P.struct_text ss) (struct_at (codes "\n\n") s) (next_structs_turn ss)
+
 -- ---- files
 
-file_by : (name : Text) (fs : List Function) → AllByRecursion IsSayable fs
-    → text_of (written_file (source_of name) (map function_of fs)) ++ end_of (written_file (source_of name) (map function_of fs)) ≡ P.source_text name ++ flat_map P.function_text fs
-file_by [] [] all = refl
-file_by [] (f ∷ fs) all =
-    let rest = flat_map next_function (map function_of fs) in
-    ap (λ (t : Text). t ++ codes "\n") (text_both (written_function (codes "\n") (function_of f)) rest) ∙ append_assoc (text_of (written_function (codes "\n") (function_of f))) (text_of rest) (codes "\n")
-    ∙ ap (λ (t : Text). text_of (written_function (codes "\n") (function_of f)) ++ t) (functions_turn fs all.1) ∙ sym (append_assoc (text_of (written_function (codes "\n") (function_of f))) (codes "\n") (flat_map P.function_text fs))
-    ∙ ap (λ (t : Text). t ++ flat_map P.function_text fs) (function_at f (codes "\n") (all_lined f all.0.form))
-file_by (b ∷ bs) fs all =
-    let rest = flat_map next_function (map function_of fs) in
+source_then : (t : Text) (rest : List Spaced) → text_of (written_source t ++ rest) ++ codes "\n" ≡ codes "source_filename = " ++ (t ++ (text_of rest ++ codes "\n"))
+source_then t rest = simp append_assoc
+
+source_before : (t a b : Text) → codes "source_filename = " ++ (t ++ (codes "\n" ++ (a ++ b))) ≡ (codes "source_filename = " ++ t ++ codes "\n") ++ a ++ b
+source_before t a b = simp append_assoc
+
+file_by : (name : Text) (ss : List Struct) (fs : List Function) → AllByRecursion IsSayable fs
+    → text_of (written_file (source_of name) (map struct_of ss) (map function_of fs)) ++ end_of (written_file (source_of name) (map struct_of ss) (map function_of fs)) ≡ P.source_text name ++ P.structs_text ss ++ flat_map P.function_text fs
+file_by [] [] [] all = refl
+file_by [] [] (f ∷ fs) all = ends_both (written_function (codes "\n") (function_of f)) (flat_map next_function (map function_of fs)) (P.function_text f) (flat_map P.function_text fs) (function_at f (codes "\n") (all_lined f all.0.form)) (functions_turn fs all.1)
+file_by [] (s ∷ ss) fs all =
+    let first = ends_both (written_struct (codes "\n") (struct_of s)) (flat_map next_struct (map struct_of ss)) (codes "\n" ++ P.struct_text s) (flat_map P.struct_text ss) (struct_at (codes "\n") s) (next_structs_turn ss) in
+    ends_both (written_structs (codes "\n") (map struct_of (s ∷ ss))) (flat_map next_function (map function_of fs)) (P.structs_text (s ∷ ss)) (flat_map P.function_text fs) first (functions_turn fs all)
+file_by (b ∷ bs) ss fs all =
+    let structs = written_structs (codes "\n\n") (map struct_of ss) in
+    let functions = flat_map next_function (map function_of fs) in
     let t = printed_text (b ∷ bs) in
-    let one : text_of (written_source t ++ rest) ++ codes "\n" ≡ codes "source_filename = " ++ (t ++ (text_of rest ++ codes "\n")) = simp append_assoc in
-    one ∙ ap (λ (u : Text). codes "source_filename = " ++ (t ++ u)) (functions_turn fs all) ∙ simp append_assoc
+    let rest = turns_both structs functions (P.structs_text ss) (flat_map P.function_text fs) (structs_turn ss) (functions_turn fs all) in
+    source_then t (structs ++ functions) ∙ ap (λ (u : Text). codes "source_filename = " ++ (t ++ u)) rest ∙ source_before t (P.structs_text ss) (flat_map P.function_text fs)
 
 -- the printed text is that of the tokens, and the end of the last line
 pub file_text : (d : ModuleData) → IsSayableModule d → text_of (written (file_of d)) ++ end_of (written (file_of d)) ≡ P.module_text d
-file_text d h = file_by d.name d.functions (recursion_from_All IsSayable d.functions h.functions)
+file_text d h = file_by d.name d.structs d.functions (recursion_from_All IsSayable d.functions h.functions)

@@ -9,6 +9,7 @@ pub mod FlatLaws
 pub mod NumberForms
 pub mod FreeLaws
 pub mod PartForms
+pub mod NameForms
 pub mod TypeTokens
 pub mod ValueSays
 pub mod RowForms
@@ -21,7 +22,7 @@ pub mod RowTexts
 pub mod LineTexts
 pub mod FileTexts
 pub mod ReadLaws
-pub mod NameForms
+pub mod NamedForms
 pub mod LineForms
 pub mod FileForms
 pub mod PrintLaws

@@ -9,9 +9,9 @@ use Rattle.kinds.specs.declared.rules.Gives.TheVariants as G
 use Rattle.kinds.specs.Fitting.{is_written, takes_fit}
 use Rattle.kinds.specs.Table.{rule_of}
 use Rattle.kinds.specs.Types.{TypeTree, VoidType, shape, same_tree}
-use Rattle.kinds.specs.Held.{is_void, IsFirstClass, IsReturned}
+use Rattle.kinds.specs.Held.{is_void, IsFirstClass}
 use Rattle.kinds.specs.Typing.{fits_trees, given, typed}
-use Rattle.kinds.proofs.HeldLaws.{value_own, returned_own}
+use Rattle.kinds.proofs.HeldLaws.{value_own}
 use Rattle.llvm_core.specs.Data.{IntConst, PlaceholderConst, Operand, Constant, Parameter, Result, RowData, Instruction, Phi, Applied, Placed, Function, operand_type}
 use Rattle.llvm_core.specs.Form.{IsOperandOf, IsOperand, IsFormRow, IsFormInstruction, IsFormPlaced, types_of, returns_void}
 use Rattle.kinds.specs.Names.{IsGoodOrNone}
@@ -19,8 +19,10 @@ use Rattle.ll_said.specs.Naming.{ParamAt, ResultOf, local_text, result_name, blo
 use Rattle.ll_said.specs.Said.{said_of, typed_of, entry_of, row_of, inst_of, line_of}
 use Rattle.ll_said.specs.Sayable.{IsSayable}
 use Rattle.ll_said.proofs.TypeLaws.{types_said}
-use Rattle.ll_written.specs.Writable.{IsConstOf, an_int, IsLocal, IsSaidOf, IsTyped, IsRow, IsIncoming, IsInst, IsLine}
+use Rattle.ll_written.specs.Writable.{has_good_names, IsSayableType, IsSayableResult, IsConstOf, an_int, IsLocal, IsSaidOf, IsTyped, IsRow, IsIncoming, IsInst, IsLine}
 use Rattle.ll_written.proofs.NameForms.{local_form, result_name_form, block_form}
+use Rattle.ll_written.proofs.NamedForms.{AreGoodIn, operand_good}
+use Rattle.ll_written.proofs.TypeTokens.{own_sayable}
 
 length_map : {A B : Type 0} (f : A → B) (xs : List A) → length (map f xs) ≡ length xs
 length_map f [] = refl
@@ -39,9 +41,10 @@ module _ (f : Function) (sayable : IsSayable f) where
   said_form (Parameter g i) τ stands type = local_form f sayable (slice_index_or f.params i []) (ParamAt i) (sayable.form.param_names i [] stands.1)
   said_form (Result n) τ stands type = local_form f sayable (result_name f n) (ResultOf n) (result_name_form f sayable n)
 
-  operands_form : (os : List Operand) → AllByRecursion (IsOperandOf f) os → AllByRecursion IsFirstClass (types_of f os) → AllByRecursion IsTyped (map (typed_of f) os)
-  operands_form [] all valued = tt
-  operands_form (o ∷ os) all valued = (record { type = valued.0; said = said_form o (operand_type f o) all.0 refl }, operands_form os all.1 valued.1)
+  operands_form : AreGoodIn f → (os : List Operand) → AllByRecursion (IsOperandOf f) os → AllByRecursion IsFirstClass (types_of f os) → AllByRecursion IsTyped (map (typed_of f) os)
+  operands_form good [] all valued = tt
+  operands_form good (o ∷ os) all valued =
+      (record { type = record { type = valued.0; names = operand_good f good o all.0 }; said = said_form o (operand_type f o) all.0 refl }, operands_form good os all.1 valued.1)
 
   targets_form : (ts : List ℕ) → AllByRecursion IsLocal (map (block_ref f) ts)
   targets_form [] = tt
@@ -54,24 +57,24 @@ module _ (f : Function) (sayable : IsSayable f) where
 -- ---- rows
 
 -- a type that is written beside operands is that of the result
-written_form : (g : Gives) (w : Option TypeTree) (a b : Option TypeTree) → is_written shape same_tree g w ≡ true → IsReturned (unwrap_or (given g w a b) VoidType) → IfSome w IsFirstClass
+written_form : (g : Gives) (w : Option TypeTree) (a b : Option TypeTree) → is_written shape same_tree g w ≡ true → IsSayableResult (unwrap_or (given g w a b) VoidType) → IfSome w IsSayableType
 written_form g None a b is returned = tt
-written_form G.Written (Some τ) a b is returned = returned_own τ returned (value_own τ is)
+written_form G.Written (Some τ) a b is returned = own_sayable τ returned (value_own τ is)
 written_form G.Nothing (Some τ) a b is returned = absurd cc
 written_form G.First (Some τ) a b is returned = absurd cc
 written_form G.Second (Some τ) a b is returned = absurd cc
 written_form G.Bit (Some τ) a b is returned = absurd cc
 
-module _ (f : Function) (sayable : IsSayable f) where
-  row_form : (type : TypeTree) (r : RowData) → IsFormRow f type r → IsReturned type → IsRow (row_of f r)
+module _ (f : Function) (sayable : IsSayable f) (good : AreGoodIn f) where
+  row_form : (type : TypeTree) (r : RowData) → IsFormRow f type r → IsSayableResult type → IsRow (row_of f r)
   row_form type r h returned =
       let ts = types_of f r.operands in
       let rule = rule_of r.op in
       let is = (and_parts (is_written shape same_tree rule.gives r.written) (takes_fit shape same_tree rule.takes (length ts) r.written (slice_get ts 0) (slice_get ts 1) (slice_get ts 2)) h.fits).0 in
       let plain : typed r.op r.written ts ≡ given rule.gives r.written (slice_get ts 0) (slice_get ts 1) = ap (λ (b : Bool). cond b (given rule.gives r.written (slice_get ts 0) (slice_get ts 1)) None) h.fits in
-      let result : IsReturned (unwrap_or (given rule.gives r.written (slice_get ts 0) (slice_get ts 1)) VoidType) = subst IsReturned (h.result ∙ ap (λ (o : Option TypeTree). unwrap_or o VoidType) plain) returned in
+      let result : IsSayableResult (unwrap_or (given rule.gives r.written (slice_get ts 0) (slice_get ts 1)) VoidType) = subst IsSayableResult (h.result ∙ ap (λ (o : Option TypeTree). unwrap_or o VoidType) plain) returned in
       record {
-        operands = operands_form f sayable r.operands (recursion_from_All (IsOperandOf f) r.operands h.operands) (recursion_from_All IsFirstClass ts h.first_class);
+        operands = operands_form f sayable good r.operands (recursion_from_All (IsOperandOf f) r.operands h.operands) (recursion_from_All IsFirstClass ts h.first_class);
         written = written_form rule.gives r.written (slice_get ts 0) (slice_get ts 1) is result;
         targets = targets_form f sayable r.targets;
         fits = ap (fits_trees r.op r.written) (types_said f r.operands) ∙ h.fits;
@@ -80,13 +83,13 @@ module _ (f : Function) (sayable : IsSayable f) where
         leads = length_map (block_ref f) r.targets ∙ h.leads;
       }
 
-  inst_form : (n : ℕ) (type : TypeTree) (i : Instruction) → IsFormInstruction f n type i → IsReturned type → IsInst (inst_of f type i)
-  inst_form n type (Phi es) h returned = (h.2, entries_form f sayable type es (recursion_from_All (λ (e : Operand × ℕ). IsOperand f type e.0) es h.0), some_mapped (entry_of f) es h.1.some)
+  inst_form : (n : ℕ) (type : TypeTree) (i : Instruction) → IsFormInstruction f n type i → IsSayableResult type → IsInst (inst_of f type i)
+  inst_form n type (Phi es) h returned = (record { type = h.2; names = returned.names }, entries_form f sayable type es (recursion_from_All (λ (e : Operand × ℕ). IsOperand f type e.0) es h.0), some_mapped (entry_of f) es h.1.some)
   inst_form n type (Applied r) h returned = row_form type r h returned
 
   gives_by : (v : Bool) (p : Placed) → IsGoodOrNone p.name → IfSome (cond v None (Some (local_text f p.name (ResultOf p.number)))) IsLocal
   gives_by true p good = tt
   gives_by false p good = local_form f sayable p.name (ResultOf p.number) good
 
-  pub line_form : (n : ℕ) (p : Placed) → IsFormPlaced f n p → IsLine (line_of f p)
-  line_form n p h = record { result = gives_by (is_void p.type) p h.name; inst = inst_form n p.type p.instruction h.instruction h.returned }
+  pub line_form : (n : ℕ) (p : Placed) → IsFormPlaced f n p → has_good_names p.type ≡ true → IsLine (line_of f p)
+  line_form n p h named = record { result = gives_by (is_void p.type) p h.name; inst = inst_form n p.type p.instruction h.instruction (record { type = h.returned; names = named }) }

@@ -1,4 +1,4 @@
--- The names and numbers of a function have the forms of their tokens.
+-- The names of functions and structs, and the names and numbers in a function, have the forms of their tokens.
 use Rattle.std.proofs.Common.{◌≡◌, ◌<◌, ◌^◌, ℕ, Bool, true, false, cond, not, nat_eq, List, [], ◌∷◌, ◌++◌, drop, Some, refl, arith}
 use Rattle.std.specs.Prelude.{decimal}
 use Rattle.std.specs.List.{flat_map, find, AllByRecursion}
@@ -17,12 +17,12 @@ use Rattle.ll_said.specs.Sayable.{IsSayable}
 use Rattle.ll_spacing.specs.Forms.{IsText, IsName, IsString, quoted, AreDigits}
 use Rattle.ll_tokens.specs.declared.kinds.Kind.TheVariants as K
 use Rattle.ll_literals.specs.Escapes.{escaped}
-use Rattle.ll_literals.specs.Names.{is_bare, is_name, global, label, printed_name, printed_text}
+use Rattle.ll_literals.specs.Names.{is_bare, is_name, global, local, label, printed_name, printed_text}
 use Rattle.ll_literals.proofs.EscapeLaws.{escaped_open}
 use Rattle.ll_literals.proofs.TextBytes.{utf8_bytes}
 use Rattle.ll_written.specs.Writable.{IsLocal}
 use Rattle.ll_said.proofs.DecimalLaws.{IsDecimal-decimal}
-use Rattle.ll_said.proofs.NameLaws.{bare_parts}
+use Rattle.ll_literals.proofs.SymbolLaws.{bare_parts}
 
 -- ---- names
 
@@ -44,6 +44,10 @@ printed_form n h = by (is_bare n) refl
 
 pub global_form : (n : Text) → is_good_name n ≡ true → IsText K.Global (global (printed_name n))
 global_form n e = IsText.global (printed_name n) (printed_form n e)
+
+-- of a struct, where it is defined and where a type names it
+pub struct_form : (n : Text) → is_good_name n ≡ true → IsLocal (local (printed_name n))
+struct_form n e = IsText.local (printed_name n) (printed_form n e)
 
 -- ---- numbers
 

@@ -34,6 +34,25 @@ pub item_source : {v : Value} (b0 b1 b2 t2 : Text) → value_by (K.Detail D.Sour
 item_source b0 b1 b2 t2 made_by =
     made llvm KINDS 1 3 (K.Detail D.Source) {cs = TextV t2 ∷ []} refl refl refl made_by (word llvm KINDS (token b0 Word (codes "source_filename")) C.word_source_filename (word llvm KINDS (token b1 Equals (codes "=")) C.sign_equals (leaf llvm KINDS (token b2 Str t2) (C.kind_str t2) (nothing llvm KINDS))))
 
+-- item = LOCAL '=' 'type' type_body
+pub item_structure : {v v3 : Value} {x3 : List Spaced} (b0 t0 b1 b2 : Text) → Reads N.type_body v3 x3 → value_by (K.List L.Structure) (TextV t0 ∷ v3 ∷ []) ≡ Some v → Reads N.item v (token b0 Local t0 ∷ token b1 Equals (codes "=") ∷ token b2 Word (codes "type") ∷ x3)
+item_structure {v3} b0 t0 b1 b2 h3 made_by =
+    made llvm KINDS 1 5 (K.List L.Structure) {cs = TextV t0 ∷ v3 ∷ []} refl refl refl made_by (leaf llvm KINDS (token b0 Local t0) (C.kind_local t0) (word llvm KINDS (token b1 Equals (codes "=")) C.sign_equals (word llvm KINDS (token b2 Word (codes "type")) C.word_type (last llvm KINDS h3))))
+
+-- type_body = 'opaque'
+pub type_body_opaque : {v : Value} (b0 : Text) → value_by (K.Detail D.Opaque) [] ≡ Some v → Reads N.type_body v (token b0 Word (codes "opaque") ∷ [])
+type_body_opaque b0 made_by = made llvm KINDS 4 15 (K.Detail D.Opaque) {cs = []} refl refl refl made_by (word llvm KINDS (token b0 Word (codes "opaque")) C.word_opaque (nothing llvm KINDS))
+
+-- type_body = '{' types '}'
+pub type_body_fields : {v v1 : Value} {x1 : List Spaced} (b0 b2 : Text) → Reads N.types v1 x1 → value_by (K.Typed T.Fields) (v1 ∷ []) ≡ Some v → Reads N.type_body v (token b0 OpenBrace (codes "{") ∷ (x1 ++ (token b2 CloseBrace (codes "}") ∷ [])))
+type_body_fields {v1} b0 b2 h1 made_by =
+    made llvm KINDS 4 16 (K.Typed T.Fields) {cs = v1 ∷ []} refl refl refl made_by (word llvm KINDS (token b0 OpenBrace (codes "{")) C.sign_openbrace (rule llvm KINDS h1 (word llvm KINDS (token b2 CloseBrace (codes "}")) C.sign_closebrace (nothing llvm KINDS))))
+
+-- type_body = '<' '{' types '}' '>'
+pub type_body_packedfields : {v v2 : Value} {x2 : List Spaced} (b0 b1 b3 b4 : Text) → Reads N.types v2 x2 → value_by (K.Typed T.PackedFields) (v2 ∷ []) ≡ Some v → Reads N.type_body v (token b0 Less (codes "<") ∷ (token b1 OpenBrace (codes "{") ∷ (x2 ++ (token b3 CloseBrace (codes "}") ∷ token b4 Greater (codes ">") ∷ []))))
+type_body_packedfields {v2} b0 b1 b3 b4 h2 made_by =
+    made llvm KINDS 4 17 (K.Typed T.PackedFields) {cs = v2 ∷ []} refl refl refl made_by (word llvm KINDS (token b0 Less (codes "<")) C.sign_less (word llvm KINDS (token b1 OpenBrace (codes "{")) C.sign_openbrace (rule llvm KINDS h2 (word llvm KINDS (token b3 CloseBrace (codes "}")) C.sign_closebrace (word llvm KINDS (token b4 Greater (codes ">")) C.sign_greater (nothing llvm KINDS))))))
+
 -- item = 'define' define_linkage head function_attrs attachments '{' body '}'
 pub item_define : {v v1 v2 v3 v4 v6 : Value} {x1 x2 x3 x4 x6 : List Spaced} (b0 b5 b7 : Text) → Reads N.define_linkage v1 x1 → Reads N.head v2 x2 → Reads N.function_attrs v3 x3 → Reads N.attachments v4 x4 → Reads N.body v6 x6 → value_by (K.List L.Define) (v1 ∷ v2 ∷ v3 ∷ v4 ∷ v6 ∷ []) ≡ Some v → Reads N.item v (token b0 Word (codes "define") ∷ (x1 ++ (x2 ++ (x3 ++ (x4 ++ (token b5 OpenBrace (codes "{") ∷ (x6 ++ (token b7 CloseBrace (codes "}") ∷ []))))))))
 item_define {v1} {v2} {v3} {v4} {v6} b0 b5 b7 h1 h2 h3 h4 h6 made_by =
@@ -169,6 +188,10 @@ type_array {v3} b0 b1 t1 b2 b4 h3 made_by =
 pub type_angle_type : {v1 : Value} {x1 : List Spaced} (b0 : Text) → Reads N.angle_type v1 x1 → Reads N.type v1 (token b0 Less (codes "<") ∷ x1)
 type_angle_type {v1} b0 h1 = made llvm KINDS 60 266 K.Same {cs = v1 ∷ []} refl refl refl refl (word llvm KINDS (token b0 Less (codes "<")) C.sign_less (last llvm KINDS h1))
 
+-- type = LOCAL
+pub type_named : {v : Value} (b0 t0 : Text) → value_by (K.Typed T.Named) (TextV t0 ∷ []) ≡ Some v → Reads N.type v (token b0 Local t0 ∷ [])
+type_named b0 t0 made_by = made llvm KINDS 60 267 (K.Typed T.Named) {cs = TextV t0 ∷ []} refl refl refl made_by (leaf llvm KINDS (token b0 Local t0) (C.kind_local t0) (nothing llvm KINDS))
+
 -- type = '{' types '}'
 pub type_struct : {v v1 : Value} {x1 : List Spaced} (b0 b2 : Text) → Reads N.types v1 x1 → value_by (K.Typed T.Struct) (v1 ∷ []) ≡ Some v → Reads N.type v (token b0 OpenBrace (codes "{") ∷ (x1 ++ (token b2 CloseBrace (codes "}") ∷ [])))
 type_struct {v1} b0 b2 h1 made_by =
@@ -194,6 +217,10 @@ solid_array {v3} b0 b1 t1 b2 b4 h3 made_by =
 -- solid = '<' angle_type
 pub solid_angle_type : {v1 : Value} {x1 : List Spaced} (b0 : Text) → Reads N.angle_type v1 x1 → Reads N.solid v1 (token b0 Less (codes "<") ∷ x1)
 solid_angle_type {v1} b0 h1 = made llvm KINDS 61 273 K.Same {cs = v1 ∷ []} refl refl refl refl (word llvm KINDS (token b0 Less (codes "<")) C.sign_less (last llvm KINDS h1))
+
+-- solid = LOCAL
+pub solid_named : {v : Value} (b0 t0 : Text) → value_by (K.Typed T.Named) (TextV t0 ∷ []) ≡ Some v → Reads N.solid v (token b0 Local t0 ∷ [])
+solid_named b0 t0 made_by = made llvm KINDS 61 274 (K.Typed T.Named) {cs = TextV t0 ∷ []} refl refl refl made_by (leaf llvm KINDS (token b0 Local t0) (C.kind_local t0) (nothing llvm KINDS))
 
 -- solid = '{' types '}'
 pub solid_struct : {v v1 : Value} {x1 : List Spaced} (b0 b2 : Text) → Reads N.types v1 x1 → value_by (K.Typed T.Struct) (v1 ∷ []) ≡ Some v → Reads N.solid v (token b0 OpenBrace (codes "{") ∷ (x1 ++ (token b2 CloseBrace (codes "}") ∷ [])))

@@ -10,10 +10,9 @@ use Rattle.kinds.specs.declared.rules.Fit.TheVariants as F
 use Rattle.kinds.specs.Rules.{operand_count}
 use Rattle.kinds.specs.Fitting.{is_number, is_no_type, is_value_type, takes_fit}
 use Rattle.kinds.specs.Types.{TypeTree, shape, same_tree}
-use Rattle.kinds.specs.Held.{IsFirstClass}
 use Rattle.kinds.proofs.TypeLaws.{tree_told}
 use Rattle.ll_lines.specs.Lines.{Text, Typed}
-use Rattle.ll_written.specs.Writable.{IsTyped}
+use Rattle.ll_written.specs.Writable.{IsSayableType, IsTyped}
 
 abbrev types : List Typed → List TypeTree
 types os = map (λ (x : Typed). x.type) os
@@ -28,7 +27,7 @@ pub data IsPair : Option TypeTree → List Typed → List Text → Type 0 where
   pair : (x y : Typed) → IsTyped x → IsTyped y → y.type ≡ x.type → IsPair None (x ∷ y ∷ []) []
 
 pub data IsCast : Option TypeTree → List Typed → List Text → Type 0 where
-  cast : (x : Typed) (τ : TypeTree) → IsTyped x → IsFirstClass τ → IsCast (Some τ) (x ∷ []) []
+  cast : (x : Typed) (τ : TypeTree) → IsTyped x → IsSayableType τ → IsCast (Some τ) (x ∷ []) []
 
 pub data IsThree : Option TypeTree → List Typed → List Text → Type 0 where
   three : (x y z : Typed) → IsTyped x → IsTyped y → IsTyped z → IsThree None (x ∷ y ∷ z ∷ []) []
@@ -59,7 +58,7 @@ pair_form None (x ∷ []) ts fits count leads all = absurd (omega arith)
 pair_form None (x ∷ y ∷ z ∷ os) ts fits count leads all = absurd (omega arith)
 pair_form None (x ∷ y ∷ []) (t ∷ ts) fits count leads all = absurd (omega arith)
 
-pub cast_form : (by : Fit) (w : Option TypeTree) (os : List Typed) (ts : List Text) → (is_value_type shape same_tree w && Fitting (T.One by) w os) ≡ true → length os ≡ 1 → length ts ≡ 0 → IfSome w IsFirstClass → AllByRecursion IsTyped os → IsCast w os ts
+pub cast_form : (by : Fit) (w : Option TypeTree) (os : List Typed) (ts : List Text) → (is_value_type shape same_tree w && Fitting (T.One by) w os) ≡ true → length os ≡ 1 → length ts ≡ 0 → IfSome w IsSayableType → AllByRecursion IsTyped os → IsCast w os ts
 cast_form by (Some τ) (x ∷ []) [] fits count leads type all = cast x τ all.0 type
 cast_form by None os ts fits count leads type all = absurd cc
 cast_form by (Some τ) [] ts fits count leads type all = absurd (omega arith)

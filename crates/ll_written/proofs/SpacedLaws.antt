@@ -4,9 +4,10 @@ use Rattle.std.specs.Prelude.{IfSome}
 use Rattle.std.specs.List.{flat_map, AllByRecursion}
 use Rattle.kinds.specs.declared.op.Op.{Op}
 use Rattle.kinds.specs.declared.op.Op.TheVariants as O
-use Rattle.kinds.specs.Types.{TypeTree}
+use Rattle.kinds.specs.Types.{TypeTree, StructType}
+use Rattle.kinds.specs.Structs.{StructBody}
 use Rattle.ll_lines.specs.Lines as L
-use Rattle.ll_lines.specs.Lines.{Text, RowLine, Incoming, Inst, Part, Param, Function, File}
+use Rattle.ll_lines.specs.Lines.{Text, RowLine, Incoming, Inst, Part, Param, Function, StructLine, File}
 use Rattle.ll_spacing.specs.Forms.{IsText}
 use Rattle.ll_spacing.specs.Spacing.{Spaced, AreSpaced, AreSpacedBehind, AreBlanks, Follows}
 use Rattle.ll_spacing.proofs.FollowLaws.{plain_follows}
@@ -16,8 +17,8 @@ use Rattle.ll_tokens.specs.Pieces.{sign_at}
 use Rattle.ll_tokens.specs.declared.kinds.Kind.TheVariants as T
 use Rattle.ll_written.specs.Written as W
 use Rattle.ll_written.specs.Written.{token, apart, close, comma}
-use Rattle.ll_written.specs.Writable.{IsLocal, IsRow, IsIncoming, IsInst, IsPart, IsParam, IsFunction, IsWritable}
-use Rattle.ll_written.proofs.FreeLaws.{AreFree, none_free, then_free, one_free, both_free, each_free, spaced_then, gap_free, apart_free, word_whole, sign_free, sign_close, comma_free}
+use Rattle.ll_written.specs.Writable.{IsLocal, IsRow, IsIncoming, IsInst, IsPart, IsParam, IsFunction, IsBody, IsStruct, IsWritable}
+use Rattle.ll_written.proofs.FreeLaws.{AreFree, none_free, then_free, one_free, both_free, each_free, spaced_then, gap_free, apart_free, word_whole, word_free, sign_free, sign_close, comma_free}
 use Rattle.ll_written.proofs.TypeTokens.{result_free, type_free, type_opened}
 use Rattle.ll_written.proofs.SpacedParts.{said_free, operands_free, values_free, returned_free, targets_free, to_free, head_free, first_free}
 
@@ -114,15 +115,33 @@ function_free b bs blanks f h =
 functions_free : (fs : List Function) → AllByRecursion IsFunction fs → AreFree (flat_map W.next_function fs)
 functions_free fs all = each_free IsFunction W.next_function (function_free 10 (codes "\n") refl) fs all
 
+-- ---- structs
+
+struct_body_free : (b : Option StructBody) → IfSome b IsBody → AreFree (W.written_struct_body b)
+struct_body_free None h = one_free (word_free (codes "opaque") refl)
+struct_body_free (Some b) h = type_free (StructType b.layout b.fields) h
+
+struct_free : (b : ℕ) (bs : Text) → AreBlanks (b ∷ bs) → (s : StructLine) → IsStruct s → AreFree (W.written_struct (b ∷ bs) s)
+unfolding sign_at
+struct_free b bs blanks s h = then_free (gap_free b bs T.Local s.name blanks (text_whole T.Local s.name h.name)) (then_free (sign_free T.Equals 61 refl) (then_free (word_free (codes "type") refl) (struct_body_free s.body h.body)))
+
+structs_free : (b : ℕ) (bs : Text) → AreBlanks (b ∷ bs) → (ss : List StructLine) → AllByRecursion IsStruct ss → AreFree (W.written_structs (b ∷ bs) ss)
+structs_free b bs blanks [] all = none_free
+structs_free b bs blanks (s ∷ ss) all = both_free (W.written_struct (b ∷ bs) s) (flat_map W.next_struct ss) (struct_free b bs blanks s all.0) (each_free IsStruct W.next_struct (struct_free 10 [] refl) ss all.1)
+
 -- ---- files
 
-file_by : (source : Option Text) (fs : List Function) → IfSome source (IsText T.Str) → AllByRecursion IsFunction fs → AreSpaced (W.written_file source fs)
+items_free : (b : ℕ) (bs : Text) → AreBlanks (b ∷ bs) → (ss : List StructLine) (fs : List Function) → AllByRecursion IsStruct ss → AllByRecursion IsFunction fs → AreFree (W.written_structs (b ∷ bs) ss ++ flat_map W.next_function fs)
+items_free b bs blanks ss fs all others = both_free (W.written_structs (b ∷ bs) ss) (flat_map W.next_function fs) (structs_free b bs blanks ss all) (functions_free fs others)
+
+file_by : (source : Option Text) (ss : List StructLine) (fs : List Function) → IfSome source (IsText T.Str) → AllByRecursion IsStruct ss → AllByRecursion IsFunction fs → AreSpaced (W.written_file source ss fs)
 unfolding sign_at
-file_by (Some t) fs h all =
+file_by (Some t) ss fs h all others =
     let first : Follows None (close T.Word (codes "source_filename")) = record { blanks = refl; whole = word_whole (codes "source_filename") refl; apart = tt } in
-    (first, (sign_free T.Equals 61 refl (Some T.Word), (apart_free T.Str t h (Some T.Equals), (functions_free fs all).behind (Some T.Str))))
-file_by None [] h all = tt
-file_by None (f ∷ fs) h all = (both_free (W.written_function (codes "\n") f) (flat_map W.next_function fs) (function_free 10 [] refl f all.0) (functions_free fs all.1)).behind None
+    (first, (sign_free T.Equals 61 refl (Some T.Word), (apart_free T.Str t h (Some T.Equals), (items_free 10 (codes "\n") refl ss fs all others).behind (Some T.Str))))
+file_by None [] [] h all others = tt
+file_by None [] (f ∷ fs) h all others = (both_free (W.written_function (codes "\n") f) (flat_map W.next_function fs) (function_free 10 [] refl f others.0) (functions_free fs others.1)).behind None
+file_by None (s ∷ ss) fs h all others = (items_free 10 [] refl (s ∷ ss) fs all others).behind None
 
 pub file_spaced : (f : File) → IsWritable f → AreSpaced (W.written f)
-file_spaced f h = file_by f.source f.functions h.source h.functions
+file_spaced f h = file_by f.source f.structs f.functions h.source h.structs h.functions

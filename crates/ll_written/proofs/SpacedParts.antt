@@ -10,7 +10,6 @@ use Rattle.kinds.specs.declared.op.OverflowFlags.{OverflowFlags}
 use Rattle.kinds.specs.declared.op.Op.{Op}
 use Rattle.kinds.specs.declared.op.Op.TheVariants as O
 use Rattle.kinds.specs.Types.{TypeTree}
-use Rattle.kinds.specs.Held.{IsFirstClass}
 use Rattle.ll_lines.specs.Lines as L
 use Rattle.ll_lines.specs.Lines.{Text, Said, Typed}
 use Rattle.ll_spacing.specs.Forms.{IsText, is_word}
@@ -21,7 +20,7 @@ use Rattle.ll_tokens.specs.declared.kinds.Kind.TheVariants as T
 use Rattle.ll_written.specs.Printing.{int_text, signed_text, predicate_text}
 use Rattle.ll_written.specs.Written as W
 use Rattle.ll_written.specs.Written.{token, word}
-use Rattle.ll_written.specs.Writable.{an_int, IsLocal, IsSaidOf, IsTyped}
+use Rattle.ll_written.specs.Writable.{IsSayableType, an_int, IsLocal, IsSaidOf, IsTyped}
 use Rattle.ll_written.proofs.FreeLaws.{AreFree, IsFree, none_free, then_free, one_free, both_free, each_free, gap_free, apart_free, word_whole, word_free, comma_free}
 use Rattle.ll_written.proofs.NumberForms.{decimal_text, minus_text}
 use Rattle.ll_written.proofs.TypeTokens.{type_free}
@@ -85,7 +84,7 @@ pub targets_free : (ts : List Text) → AllByRecursion IsLocal ts → AreFree (W
 targets_free [] all = none_free
 targets_free (t ∷ ts) all = both_free (W.written_target t) (flat_map W.next_target ts) (target_free t all.0) (each_free IsLocal W.next_target (λ u h. then_free comma_free (target_free u h)) ts all.1)
 
-pub to_free : (w : Option TypeTree) → IfSome w IsFirstClass → AreFree (W.written_to w)
+pub to_free : (w : Option TypeTree) → IfSome w IsSayableType → AreFree (W.written_to w)
 to_free None h = none_free
 to_free (Some τ) h = then_free (word_free (codes "to") refl) (type_free τ h)
 

@@ -7,12 +7,17 @@ use Rattle.std.proofs.lemmas.List.{append-nil}
 use Rattle.std.proofs.lemmas.List.Elements.{All-head, All-tail}
 use Rattle.kinds.specs.declared.types.VectorTypeKind.TheVariants as E
 use Rattle.kinds.specs.declared.types.StructLayout.TheVariants as S
-use Rattle.kinds.specs.Types.{TypeTree, VoidType, IntType, PointerType, FloatingType, RefusedType, ArrayType, VectorType, StructType, TypeTrees, NoTypes, ThenType, shape, types_list}
+use Rattle.kinds.specs.Types.{TypeTree, VoidType, IntType, PointerType, FloatingType, RefusedType, ArrayType, VectorType, StructType, NamedType, TypeTrees, NoTypes, ThenType, shape, types_list}
+use Rattle.kinds.specs.Structs.{StructBody}
+use Rattle.kinds.specs.declared.types.StructLayout.{StructLayout}
+use Rattle.kinds.specs.Names.{is_good_name}
 use Rattle.kinds.specs.Fitting.{is_array_of, is_vector_of}
-use Rattle.kinds.specs.Held.{is_void, IsFirstClass, IsReturned}
+use Rattle.kinds.specs.Held.{is_void}
 use Rattle.kinds.proofs.HeldLaws.{void_is, first_class_value, first_class_int, first_class_pointer, returned_own, returned_if}
 use Rattle.ll_lines.specs.Lines.{Text}
+use Rattle.ll_literals.specs.Names.{local, printed_name}
 use Rattle.ll_literals.specs.Numbers.{number_of, up_to}
+use Rattle.ll_literals.proofs.SymbolLaws.{symbol_says}
 use Rattle.ll_spacing.specs.Forms.{IsText}
 use Rattle.ll_spacing.specs.Following.{goes_on}
 use Rattle.ll_spacing.specs.Spacing.{Spaced, Follows, AreSpacedBehind, AreBlanks, IsApart, text_of}
@@ -23,18 +28,27 @@ use Rattle.ll_tokens.specs.declared.kinds.Kind.{Kind}
 use Rattle.ll_tokens.specs.declared.kinds.Kind.TheVariants as T
 use Rattle.ll_values.specs.declared.form.Kind.TheVariants as K
 use Rattle.ll_values.specs.declared.form.TypedKind.TheVariants as V
-use Rattle.ll_values.specs.Values.{Value, NoneV, TextV, SpaceV, TypeV, TypesV, value_by}
+use Rattle.ll_values.specs.Values.{Value, NoneV, TextV, SpaceV, TypeV, TypesV, FieldsV, value_by}
 use Rattle.ll_said.proofs.DecimalLaws.{IsDecimal-decimal}
 use Rattle.ll_written.specs.Printing.{space_text, type_text, before_brace, fields_text, next_fields_text}
 use Rattle.ll_written.specs.Rules as N
 use Rattle.ll_written.specs.Written.{token, close, written_space, written_type, written_fields, next_fields}
+use Rattle.ll_written.specs.Writable.{IsSayableType, IsSayableResult, IsBody}
 use Rattle.ll_written.proofs.Productions as P
 use Rattle.ll_written.proofs.Productions.{Reads}
 use Rattle.ll_written.proofs.FlatLaws.{floating_flat, other_flat, flat_word, flat_says, flat_solid}
 use Rattle.ll_written.proofs.FreeLaws.{AreFree, IsFree, spaced_then, none_free, then_free, one_free, both_free, apart_free, word_free, sign_free, sign_close, comma_free}
 use Rattle.ll_written.proofs.PartForms.{IsCounted, AreFields, array_parts, vector_parts, struct_parts}
+use Rattle.ll_written.proofs.NameForms.{struct_form}
 use Rattle.ll_written.proofs.NumberForms.{decimal_text, int_type_text}
 use Rattle.ll_written.proofs.TypeLaws.{small, small_space, int_class, int_width}
+
+-- what is returned is of a value, unless it is void
+pub own_sayable : (τ : TypeTree) → IsSayableResult τ → is_void τ ≡ false → IsSayableType τ
+own_sayable τ h e = record { type = returned_own τ h.type e; names = h.names }
+
+sayable_if : (τ : TypeTree) → IsSayableType τ → IsSayableResult τ
+sayable_if τ h = record { type = returned_if τ h.type; names = h.names }
 
 -- ---- what they say
 
@@ -76,13 +90,17 @@ struct_again ts h = rw (h.may) refl
 packed_again : (ts : TypeTrees) → AreFields ts → value_by (K.Typed V.Packed) (TypesV ts ∷ []) ≡ Some (TypeV (StructType S.Packed ts))
 packed_again ts h = rw (h.may) refl
 
+-- the name of a struct is read again
+named_again : (n : Text) → is_good_name n ≡ true → value_by (K.Typed V.Named) (TextV (local (printed_name n)) ∷ []) ≡ Some (TypeV (NamedType n))
+named_again n h = ap (λ (o : Option Text). option_map TypeV (option_map NamedType o)) (symbol_says 37 n h)
+
 mutual
   unfolding written_type written_fields next_fields
 
   -- a line for each kind
-  pub type_says : (b : Text) (τ : TypeTree) → IsFirstClass τ → Reads N.type (TypeV τ) (written_type b τ)
-  type_says b (IntType n) h = let k = first_class_int n h in P.type_int b (105 ∷ decimal n) (int_class n k.1) (ap (option_map TypeV) (int_width n k.0 k.1))
-  type_says b (PointerType n) h = P.type_pointer b (space_says n (first_class_pointer n h)) (pointer_again n)
+  pub type_says : (b : Text) (τ : TypeTree) → IsSayableType τ → Reads N.type (TypeV τ) (written_type b τ)
+  type_says b (IntType n) h = let k = first_class_int n h.type in P.type_int b (105 ∷ decimal n) (int_class n k.1) (ap (option_map TypeV) (int_width n k.0 k.1))
+  type_says b (PointerType n) h = P.type_pointer b (space_says n (first_class_pointer n h.type)) (pointer_again n)
   type_says b (FloatingType f) h = flat_says b (FloatingType f) (floating_flat f)
   type_says b (RefusedType o) h = flat_says b (RefusedType o) (other_flat o)
   type_says b (ArrayType n t) h = let k = array_parts n t h in P.type_array b [] (decimal n) (codes " ") [] (type_says (codes " ") t k.part) (array_again n t k)
@@ -91,32 +109,48 @@ mutual
       let k = vector_parts E.Scalable n t h in P.type_angle_type b (P.angle_type_scalable [] (codes " ") (codes " ") (decimal n) (codes " ") [] (type_says (codes " ") t k.part) (scalable_again n t k))
   type_says b (StructType S.Unpacked ts) h = let k = struct_parts S.Unpacked ts h in P.type_struct b (before_brace ts) (fields_say ts k.parts) (struct_again ts k)
   type_says b (StructType S.Packed ts) h = let k = struct_parts S.Packed ts h in P.type_angle_type b (P.angle_type_packed [] (before_brace ts) [] (fields_say ts k.parts) (packed_again ts k))
-  type_says b τ h = absurd (let k = first_class_value τ h in cc)
+  type_says b (NamedType n) h = P.type_named b (local (printed_name n)) (named_again n h.names)
+  type_says b τ h = absurd (let k = first_class_value τ h.type in cc)
 
-  fields_say : (ts : TypeTrees) → All IsFirstClass (types_list ts) → Reads N.types (TypesV ts) (written_fields ts)
+  fields_say : (ts : TypeTrees) → All IsSayableType (types_list ts) → Reads N.types (TypesV ts) (written_fields ts)
   fields_say NoTypes h = P.types_end refl
-  fields_say (ThenType t ts) h = P.types_more (type_says (codes " ") t (All-head IsFirstClass t (types_list ts) h)) (next_say ts (All-tail IsFirstClass t (types_list ts) h)) refl
+  fields_say (ThenType t ts) h = P.types_more (type_says (codes " ") t (All-head IsSayableType t (types_list ts) h)) (next_say ts (All-tail IsSayableType t (types_list ts) h)) refl
 
-  next_say : (ts : TypeTrees) → All IsFirstClass (types_list ts) → Reads N.more_types (TypesV ts) (next_fields ts)
+  next_say : (ts : TypeTrees) → All IsSayableType (types_list ts) → Reads N.more_types (TypesV ts) (next_fields ts)
   next_say NoTypes h = P.more_types_end refl
-  next_say (ThenType t ts) h = P.more_types_more [] (type_says (codes " ") t (All-head IsFirstClass t (types_list ts) h)) (next_say ts (All-tail IsFirstClass t (types_list ts) h)) refl
+  next_say (ThenType t ts) h = P.more_types_more [] (type_says (codes " ") t (All-head IsSayableType t (types_list ts) h)) (next_say ts (All-tail IsSayableType t (types_list ts) h)) refl
 
 void_says : (b : Text) → Reads N.type (TypeV VoidType) (written_type b VoidType)
 unfolding written_type
 void_says b = P.type_void b refl
 
-pub result_says : (b : Text) (τ : TypeTree) → IsReturned τ → Reads N.type (TypeV τ) (written_type b τ)
+pub result_says : (b : Text) (τ : TypeTree) → IsSayableResult τ → Reads N.type (TypeV τ) (written_type b τ)
 result_says b τ h = by (is_void τ) refl
   where
     by : (v : Bool) → is_void τ ≡ v → Reads N.type (TypeV τ) (written_type b τ)
     by true is = subst (λ (t : TypeTree). Reads N.type (TypeV t) (written_type b t)) (sym (void_is τ is)) (void_says b)
-    by false is = type_says b τ (returned_own τ h is)
+    by false is = type_says b τ (own_sayable τ h is)
+
+fields_again : (ts : TypeTrees) → AreFields ts → value_by (K.Typed V.Fields) (TypesV ts ∷ []) ≡ Some (FieldsV (Some (record { fields = ts; layout = S.Unpacked })))
+fields_again ts h = rw (h.may) refl
+
+packed_fields_again : (ts : TypeTrees) → AreFields ts → value_by (K.Typed V.PackedFields) (TypesV ts ∷ []) ≡ Some (FieldsV (Some (record { fields = ts; layout = S.Packed })))
+packed_fields_again ts h = rw (h.may) refl
+
+body_by : (b : Text) (l : StructLayout) (ts : TypeTrees) → AreFields ts → Reads N.type_body (FieldsV (Some (record { fields = ts; layout = l }))) (written_type b (StructType l ts))
+unfolding written_type
+body_by b S.Unpacked ts k = P.type_body_fields b (before_brace ts) (fields_say ts k.parts) (fields_again ts k)
+body_by b S.Packed ts k = P.type_body_packedfields b [] (before_brace ts) [] (fields_say ts k.parts) (packed_fields_again ts k)
+
+-- the fields of an identified struct are written as a literal struct
+pub fields_body_says : (b : Text) (x : StructBody) → IsBody x → Reads N.type_body (FieldsV (Some x)) (written_type b (StructType x.layout x.fields))
+fields_body_says b x h = body_by b x.layout x.fields (struct_parts x.layout x.fields h)
 
 -- a line for each kind
-pub solid_says : (b : Text) (τ : TypeTree) → IsFirstClass τ → Reads N.solid (TypeV τ) (written_type b τ)
+pub solid_says : (b : Text) (τ : TypeTree) → IsSayableType τ → Reads N.solid (TypeV τ) (written_type b τ)
 unfolding written_type written_fields next_fields
-solid_says b (IntType n) h = let k = first_class_int n h in P.solid_int b (105 ∷ decimal n) (int_class n k.1) (ap (option_map TypeV) (int_width n k.0 k.1))
-solid_says b (PointerType n) h = P.solid_pointer b (space_says n (first_class_pointer n h)) (pointer_again n)
+solid_says b (IntType n) h = let k = first_class_int n h.type in P.solid_int b (105 ∷ decimal n) (int_class n k.1) (ap (option_map TypeV) (int_width n k.0 k.1))
+solid_says b (PointerType n) h = P.solid_pointer b (space_says n (first_class_pointer n h.type)) (pointer_again n)
 solid_says b (FloatingType f) h = flat_solid b (FloatingType f) (floating_flat f)
 solid_says b (RefusedType o) h = flat_solid b (RefusedType o) (other_flat o)
 solid_says b (ArrayType n t) h = let k = array_parts n t h in P.solid_array b [] (decimal n) (codes " ") [] (type_says (codes " ") t k.part) (array_again n t k)
@@ -125,7 +159,8 @@ solid_says b (VectorType E.Scalable n t) h =
     let k = vector_parts E.Scalable n t h in P.solid_angle_type b (P.angle_type_scalable [] (codes " ") (codes " ") (decimal n) (codes " ") [] (type_says (codes " ") t k.part) (scalable_again n t k))
 solid_says b (StructType S.Unpacked ts) h = let k = struct_parts S.Unpacked ts h in P.solid_struct b (before_brace ts) (fields_say ts k.parts) (struct_again ts k)
 solid_says b (StructType S.Packed ts) h = let k = struct_parts S.Packed ts h in P.solid_angle_type b (P.angle_type_packed [] (before_brace ts) [] (fields_say ts k.parts) (packed_again ts k))
-solid_says b τ h = absurd (let k = first_class_value τ h in cc)
+solid_says b (NamedType n) h = P.solid_named b (local (printed_name n)) (named_again n h.names)
+solid_says b τ h = absurd (let k = first_class_value τ h.type in cc)
 
 -- ---- their spacing
 
@@ -194,9 +229,9 @@ mutual
   unfolding written_type written_fields next_fields sign_at
 
   -- a line for each kind
-  type_spaced : (last : Option Kind) (b : Text) (τ : TypeTree) → Stands last b → IsFirstClass τ → AreSpacedBehind last (written_type b τ)
-  type_spaced last b (IntType n) s h = (stands last b T.Word (105 ∷ decimal n) s (int_type_text n (small n (first_class_int n h).1)), tt)
-  type_spaced last b (PointerType n) s h = (stands last b T.Word (codes "ptr") s (IsText.word (codes "ptr") refl), space_spaced (Some T.Word) n (first_class_pointer n h))
+  type_spaced : (last : Option Kind) (b : Text) (τ : TypeTree) → Stands last b → IsSayableType τ → AreSpacedBehind last (written_type b τ)
+  type_spaced last b (IntType n) s h = (stands last b T.Word (105 ∷ decimal n) s (int_type_text n (small n (first_class_int n h.type).1)), tt)
+  type_spaced last b (PointerType n) s h = (stands last b T.Word (codes "ptr") s (IsText.word (codes "ptr") refl), space_spaced (Some T.Word) n (first_class_pointer n h.type))
   type_spaced last b (FloatingType f) s h = (stands last b T.Word (type_text (FloatingType f)) s (flat_word (FloatingType f) (floating_flat f)), tt)
   type_spaced last b (RefusedType o) s h = (stands last b T.Word (type_text (RefusedType o)) s (flat_word (RefusedType o) (other_flat o)), tt)
   type_spaced last b (ArrayType n t) s h =
@@ -218,37 +253,38 @@ mutual
       let end = then_free (brace_close ts) (one_free angle_close) in
       let opens = sign_stands (Some T.Less) [] T.OpenBrace 123 (behind_open T.Less (λ c. refl)) refl in
       (sign_stands last b T.Less 60 s refl, (opens, (both_free (written_fields ts) (token (before_brace ts) T.CloseBrace (codes "}") ∷ close T.Greater (codes ">") ∷ []) (fields_free ts k.parts) end).behind (Some T.OpenBrace)))
-  type_spaced last b τ s h = absurd (let k = first_class_value τ h in cc)
+  type_spaced last b (NamedType n) s h = (stands last b T.Local (type_text (NamedType n)) s (struct_form n h.names), tt)
+  type_spaced last b τ s h = absurd (let k = first_class_value τ h.type in cc)
 
-  fields_free : (ts : TypeTrees) → All IsFirstClass (types_list ts) → AreFree (written_fields ts)
+  fields_free : (ts : TypeTrees) → All IsSayableType (types_list ts) → AreFree (written_fields ts)
   fields_free NoTypes h = none_free
-  fields_free (ThenType t ts) h = field_free t (next_fields ts) (λ last. type_spaced last (codes " ") t (behind_blank last) (All-head IsFirstClass t (types_list ts) h)) (next_free ts (All-tail IsFirstClass t (types_list ts) h))
+  fields_free (ThenType t ts) h = field_free t (next_fields ts) (λ last. type_spaced last (codes " ") t (behind_blank last) (All-head IsSayableType t (types_list ts) h)) (next_free ts (All-tail IsSayableType t (types_list ts) h))
 
-  next_free : (ts : TypeTrees) → All IsFirstClass (types_list ts) → AreFree (next_fields ts)
+  next_free : (ts : TypeTrees) → All IsSayableType (types_list ts) → AreFree (next_fields ts)
   next_free NoTypes h = none_free
-  next_free (ThenType t ts) h = then_free comma_free (field_free t (next_fields ts) (λ last. type_spaced last (codes " ") t (behind_blank last) (All-head IsFirstClass t (types_list ts) h)) (next_free ts (All-tail IsFirstClass t (types_list ts) h)))
+  next_free (ThenType t ts) h = then_free comma_free (field_free t (next_fields ts) (λ last. type_spaced last (codes " ") t (behind_blank last) (All-head IsSayableType t (types_list ts) h)) (next_free ts (All-tail IsSayableType t (types_list ts) h)))
 
 void_spaced : (last : Option Kind) (b : Text) → Stands last b → AreSpacedBehind last (written_type b VoidType)
 unfolding written_type
 void_spaced last b s = (stands last b T.Word (codes "void") s (IsText.word (codes "void") refl), tt)
 
-result_spaced : (last : Option Kind) (b : Text) (τ : TypeTree) → Stands last b → IsReturned τ → AreSpacedBehind last (written_type b τ)
+result_spaced : (last : Option Kind) (b : Text) (τ : TypeTree) → Stands last b → IsSayableResult τ → AreSpacedBehind last (written_type b τ)
 result_spaced last b τ s h = by (is_void τ) refl
   where
     by : (v : Bool) → is_void τ ≡ v → AreSpacedBehind last (written_type b τ)
     by true is = subst (λ (t : TypeTree). AreSpacedBehind last (written_type b t)) (sym (void_is τ is)) (void_spaced last b s)
-    by false is = type_spaced last b τ s (returned_own τ h is)
+    by false is = type_spaced last b τ s (own_sayable τ h is)
 
 -- behind a blank they may stand behind any token
-pub result_free : (τ : TypeTree) → IsReturned τ → AreFree (written_type (codes " ") τ)
+pub result_free : (τ : TypeTree) → IsSayableResult τ → AreFree (written_type (codes " ") τ)
 result_free τ h = record { behind = λ last. result_spaced last (codes " ") τ (behind_blank last) h }
 
-pub type_free : (τ : TypeTree) → IsFirstClass τ → AreFree (written_type (codes " ") τ)
-type_free τ h = result_free τ (returned_if τ h)
+pub type_free : (τ : TypeTree) → IsSayableType τ → AreFree (written_type (codes " ") τ)
+type_free τ h = result_free τ (sayable_if τ h)
 
 -- and they may stand directly behind the sign that opens parameters
-pub type_opened : (τ : TypeTree) → IsFirstClass τ → AreSpacedBehind (Some T.OpenParen) (written_type [] τ)
-type_opened τ h = result_spaced (Some T.OpenParen) [] τ (behind_open T.OpenParen (λ c. refl)) (returned_if τ h)
+pub type_opened : (τ : TypeTree) → IsSayableType τ → AreSpacedBehind (Some T.OpenParen) (written_type [] τ)
+type_opened τ h = result_spaced (Some T.OpenParen) [] τ (behind_open T.OpenParen (λ c. refl)) (sayable_if τ h)
 
 -- ---- their text
 

@@ -56,7 +56,7 @@ said_again τ (L.Const c) type (an_int v n most fits) =
     rw (narrow, const_value-int v n (first_class_int v type).0 most fits) refl
 
 pub typed_again : (x : Typed) → IsTyped x → typed x.type (literal_of x.said) ≡ Some x
-typed_again x h = ap (λ (o : Option Said). o >>= λ s. Some (record { type = x.type; said = s })) (said_again x.type x.said h.type h.said)
+typed_again x h = ap (λ (o : Option Said). o >>= λ s. Some (record { type = x.type; said = s })) (said_again x.type x.said h.type.type h.said)
 
 pub typed_says : (x : Typed) → IsTyped x → Reads N.typed (TypedV x) (written_typed x)
 typed_says x h = P.typed (type_says (codes " ") x.type h.type) (said_says x.type x.said h.said) (ap (option_map TypedV) (typed_again x h))

@@ -108,6 +108,9 @@ word_nsw = word_class (codes "nsw") 100 refl
 pub word_nuw : llvm_class Word (codes "nuw") ≡ 102
 word_nuw = word_class (codes "nuw") 102 refl
 
+pub word_opaque : llvm_class Word (codes "opaque") ≡ 103
+word_opaque = word_class (codes "opaque") 103 refl
+
 pub word_or : llvm_class Word (codes "or") ≡ 104
 word_or = word_class (codes "or") 104 refl
 
@@ -128,6 +131,9 @@ word_to = word_class (codes "to") 117 refl
 
 pub word_trunc : llvm_class Word (codes "trunc") ≡ 118
 word_trunc = word_class (codes "trunc") 118 refl
+
+pub word_type : llvm_class Word (codes "type") ≡ 119
+word_type = word_class (codes "type") 119 refl
 
 pub word_unreachable : llvm_class Word (codes "unreachable") ≡ 120
 word_unreachable = word_class (codes "unreachable") 120 refl

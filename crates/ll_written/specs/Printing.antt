@@ -14,11 +14,11 @@ use Rattle.kinds.specs.declared.types.VectorTypeKind.{VectorTypeKind}
 use Rattle.kinds.specs.declared.types.VectorTypeKind.TheVariants as V
 use Rattle.kinds.specs.declared.types.StructLayout.{StructLayout}
 use Rattle.kinds.specs.declared.types.StructLayout.TheVariants as L
-use Rattle.llvm_core.specs.Data.{TypeTree, VoidType, IntType, PointerType, FloatingType, RefusedType, ArrayType, VectorType, StructType, FunctionType, TypeTrees, NoTypes, ThenType, ConstTree, IntConst, PlaceholderConst, Operand, Constant, Parameter, Result, Instruction, Phi, RowData, Applied, Placed, Block, Function, ModuleData, operand_type, param_type}
+use Rattle.llvm_core.specs.Data.{TypeTree, VoidType, IntType, PointerType, FloatingType, RefusedType, ArrayType, VectorType, StructType, NamedType, FunctionType, TypeTrees, NoTypes, ThenType, ConstTree, IntConst, PlaceholderConst, Operand, Constant, Parameter, Result, Instruction, Phi, RowData, Applied, Placed, Block, Function, StructBody, Struct, ModuleData, operand_type, param_type}
 use Rattle.kinds.specs.Types.{result_of}
 use Rattle.kinds.specs.Held.{is_void}
 use Rattle.ll_literals.specs.Text.{Text}
-use Rattle.ll_literals.specs.Names.{global, printed_name, printed_text}
+use Rattle.ll_literals.specs.Names.{global, local, printed_name, printed_text}
 use Rattle.ll_said.specs.Naming.{ParamAt, ResultOf, local_text, result_name, block_ref}
 
 -- ---- types and constants
@@ -77,6 +77,7 @@ abbrev mutual
   type_text (ArrayType count t) = counted_text (codes "[") count (type_text t) (codes "]")
   type_text (VectorType kind count t) = counted_text (vector_open kind) count (type_text t) (codes ">")
   type_text (StructType layout ts) = struct_open layout ++ fields_text ts ++ before_brace ts ++ struct_close layout
+  type_text (NamedType name) = local (printed_name name)
   type_text (FunctionType result params variadic) = []
 
   -- fields, the first behind a blank
@@ -289,5 +290,18 @@ abbrev pub source_text : Text → Text
 source_text [] = []
 source_text (b ∷ bs) = codes "source_filename = " ++ printed_text (b ∷ bs) ++ codes "\n"
 
+-- what is in a struct
+abbrev pub body_text : Option StructBody → Text
+body_text None = codes "opaque"
+body_text (Some b) = type_text (StructType b.layout b.fields)
+
+abbrev pub struct_text : Struct → Text
+struct_text s = local (printed_name s.name) ++ codes " = type " ++ body_text s.body ++ codes "\n"
+
+-- structs, a line each, after a blank line where there are any
+abbrev pub structs_text : List Struct → Text
+structs_text [] = []
+structs_text (s ∷ ss) = codes "\n" ++ struct_text s ++ flat_map struct_text ss
+
 abbrev pub module_text : ModuleData → Text
-module_text d = source_text d.name ++ flat_map function_text d.functions
+module_text d = source_text d.name ++ structs_text d.structs ++ flat_map function_text d.functions

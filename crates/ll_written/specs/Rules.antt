@@ -7,6 +7,9 @@ file = 0
 abbrev pub item : ℕ
 item = 1
 
+abbrev pub type_body : ℕ
+type_body = 4
+
 abbrev pub define_linkage : ℕ
 define_linkage = 8
 

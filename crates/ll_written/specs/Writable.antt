@@ -1,16 +1,44 @@
 -- Files that their text says: what is asked of each part.
-use Rattle.std.specs.Prelude.{◌≡◌, ◌<◌, ◌≤◌, ◌^◌, ℕ, Bool, true, [], length, map, IfSome}
+use Rattle.std.specs.Prelude.{◌≡◌, ◌<◌, ◌≤◌, ◌^◌, ℕ, Bool, true, ◌&&◌, [], length, map, IfSome}
 use Rattle.std.specs.List.{AllByRecursion}
 use Rattle.kinds.specs.Rules.{target_count, operand_count}
 use Rattle.kinds.specs.Table.{rule_of}
-use Rattle.kinds.specs.Types.{TypeTree, IntType}
+use Rattle.kinds.specs.Types.{TypeTree, ArrayType, VectorType, StructType, NamedType, FunctionType, IntType, TypeTrees, NoTypes, ThenType}
+use Rattle.kinds.specs.Structs.{StructBody}
 use Rattle.kinds.specs.Held.{IsFirstClass, IsReturned}
+use Rattle.kinds.specs.Names.{is_good_name}
 use Rattle.kinds.specs.Typing.{fits_trees}
 use Rattle.llvm_core.specs.Data.{ConstTree, IntConst}
 use Rattle.ll_tokens.specs.declared.kinds.Kind.TheVariants as K
 use Rattle.ll_lines.specs.Lines as L
-use Rattle.ll_lines.specs.Lines.{Text, Said, Typed, RowLine, Incoming, Inst, Line, Part, Param, Function, File}
+use Rattle.ll_lines.specs.Lines.{Text, Said, Typed, RowLine, Incoming, Inst, Line, Part, Param, Function, StructLine, File}
 use Rattle.ll_spacing.specs.Forms.{IsText}
+
+-- ---- types
+
+abbrev mutual
+  -- each name in a type is one that a text can say: a line for what has a name, and for each kind with parts
+  pub has_good_names : TypeTree → Bool
+  has_good_names (NamedType name) = is_good_name name
+  has_good_names (ArrayType count t) = has_good_names t
+  has_good_names (VectorType kind count t) = has_good_names t
+  has_good_names (StructType layout ts) = have_good_names ts
+  has_good_names (FunctionType result params variadic) = has_good_names result && have_good_names params
+  has_good_names t = true
+
+  pub have_good_names : TypeTrees → Bool
+  have_good_names NoTypes = true
+  have_good_names (ThenType t ts) = has_good_names t && have_good_names ts
+
+-- a type of a value that a text says
+pub record IsSayableType (τ : TypeTree) : Type 0 where
+  pub type : IsFirstClass τ
+  pub names : has_good_names τ ≡ true
+
+-- what a function may return that a text says
+pub record IsSayableResult (τ : TypeTree) : Type 0 where
+  pub type : IsReturned τ
+  pub names : has_good_names τ ≡ true
 
 -- ---- values
 
@@ -26,7 +54,7 @@ IsSaidOf τ (L.Local t) = IsLocal t
 IsSaidOf τ (L.Const c) = IsConstOf τ c
 
 pub record IsTyped (x : Typed) : Type 0 where
-  pub type : IsFirstClass x.type
+  pub type : IsSayableType x.type
   pub said : IsSaidOf x.type x.said
 
 -- ---- instructions
@@ -34,7 +62,7 @@ pub record IsTyped (x : Typed) : Type 0 where
 -- a row of the table whose rule holds
 pub record IsRow (r : RowLine) : Type 0 where
   pub operands : AllByRecursion IsTyped r.operands
-  pub written : IfSome r.written IsFirstClass
+  pub written : IfSome r.written IsSayableType
   pub targets : AllByRecursion IsLocal r.targets
   pub fits : fits_trees r.op r.written (map (λ (x : Typed). x.type) r.operands) ≡ true
   -- whether its function returns void, as a return wants to know
@@ -48,7 +76,7 @@ pub record IsIncoming (τ : TypeTree) (e : Incoming) : Type 0 where
 
 -- a phi has an entry
 abbrev pub IsInst : Inst → Type 0
-IsInst (L.Phi τ es) = IsFirstClass τ × AllByRecursion (IsIncoming τ) es × ¬ (es ≡ [])
+IsInst (L.Phi τ es) = IsSayableType τ × AllByRecursion (IsIncoming τ) es × ¬ (es ≡ [])
 IsInst (L.Row r) = IsRow r
 
 -- ---- functions and files
@@ -62,17 +90,26 @@ IsPart (L.Label t) = IsText K.Label t
 IsPart (L.Does l) = IsLine l
 
 pub record IsParam (p : Param) : Type 0 where
-  pub type : IsFirstClass p.type
+  pub type : IsSayableType p.type
   pub name : IfSome p.name IsLocal
 
 -- a function has a body
 pub record IsFunction (f : Function) : Type 0 where
-  pub result : IsReturned f.result
+  pub result : IsSayableResult f.result
   pub name : IsText K.Global f.name
   pub params : AllByRecursion IsParam f.params
   pub body : AllByRecursion IsPart f.body
   pub some : ¬ (f.body ≡ [])
 
+-- fields that a struct may have
+abbrev pub IsBody : StructBody → Type 0
+IsBody b = IsSayableType (StructType b.layout b.fields)
+
+pub record IsStruct (s : StructLine) : Type 0 where
+  pub name : IsLocal s.name
+  pub body : IfSome s.body IsBody
+
 pub record IsWritable (f : File) : Type 0 where
   pub source : IfSome f.source (IsText K.Str)
+  pub structs : AllByRecursion IsStruct f.structs
   pub functions : AllByRecursion IsFunction f.functions

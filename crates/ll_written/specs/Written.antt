@@ -6,12 +6,13 @@ use Rattle.kinds.specs.declared.op.Op.{Op}
 use Rattle.kinds.specs.declared.op.Op.TheVariants as O
 use Rattle.kinds.specs.declared.types.VectorTypeKind.TheVariants as V
 use Rattle.kinds.specs.declared.types.StructLayout.TheVariants as S
-use Rattle.kinds.specs.Types.{TypeTree, PointerType, ArrayType, VectorType, StructType, TypeTrees, NoTypes, ThenType}
+use Rattle.kinds.specs.Types.{TypeTree, PointerType, ArrayType, VectorType, StructType, NamedType, TypeTrees, NoTypes, ThenType}
+use Rattle.kinds.specs.Structs.{StructBody}
 use Rattle.llvm_core.specs.Data.{ConstTree, IntConst, PlaceholderConst}
 use Rattle.ll_tokens.specs.declared.kinds.Kind.{Kind}
 use Rattle.ll_tokens.specs.declared.kinds.Kind.TheVariants as K
 use Rattle.ll_lines.specs.Lines as L
-use Rattle.ll_lines.specs.Lines.{Text, Said, Typed, RowLine, Incoming, Inst, Line, Part, Param, Function, File}
+use Rattle.ll_lines.specs.Lines.{Text, Said, Typed, RowLine, Incoming, Inst, Line, Part, Param, Function, StructLine, File}
 use Rattle.ll_spacing.specs.Spacing.{Spaced}
 use Rattle.ll_written.specs.Printing.{type_text, before_brace, const_text, predicate_text}
 
@@ -46,7 +47,7 @@ written_space (suc n) = word (codes "addrspace") ∷ close K.OpenParen (codes "(
 
 -- The words are closed, so that what is said of the tokens of a type by laws holds of types of several tokens.
 unfoldable mutual
-  -- a type, whose first token stands behind that: a line for each kind of several tokens
+  -- a type, whose first token stands behind that: a line for each kind of several tokens, or of another than a word
   pub written_type : (before : Text) → TypeTree → List Spaced
   written_type before (PointerType space) = token before K.Word (codes "ptr") ∷ written_space space
   written_type before (ArrayType count τ) = token before K.OpenBracket (codes "[") ∷ close K.Int (decimal count) ∷ word (codes "x") ∷ (written_type (codes " ") τ ++ (close K.CloseBracket (codes "]") ∷ []))
@@ -56,6 +57,7 @@ unfoldable mutual
   written_type before (StructType S.Unpacked τs) = token before K.OpenBrace (codes "{") ∷ (written_fields τs ++ (token (before_brace τs) K.CloseBrace (codes "}") ∷ []))
   written_type before (StructType S.Packed τs) =
       token before K.Less (codes "<") ∷ close K.OpenBrace (codes "{") ∷ (written_fields τs ++ (token (before_brace τs) K.CloseBrace (codes "}") ∷ close K.Greater (codes ">") ∷ []))
+  written_type before (NamedType name) = token before K.Local (type_text (NamedType name)) ∷ []
   written_type before τ = token before K.Word (type_text τ) ∷ []
 
   pub written_fields : TypeTrees → List Spaced
@@ -228,16 +230,35 @@ written_function before f =
 abbrev pub next_function : Function → List Spaced
 next_function f = written_function (codes "\n\n") f
 
+-- what is in a struct
+abbrev pub written_struct_body : Option StructBody → List Spaced
+written_struct_body None = word (codes "opaque") ∷ []
+written_struct_body (Some b) = written_type (codes " ") (StructType b.layout b.fields)
+
+abbrev pub written_struct : (before : Text) → StructLine → List Spaced
+written_struct before s = token before K.Local s.name ∷ apart K.Equals (codes "=") ∷ word (codes "type") ∷ written_struct_body s.body
+
+-- a struct behind another one
+abbrev pub next_struct : StructLine → List Spaced
+next_struct s = written_struct (codes "\n") s
+
+-- structs, of which the first stands behind that
+abbrev pub written_structs : (before : Text) → List StructLine → List Spaced
+written_structs before [] = []
+written_structs before (s ∷ ss) = written_struct before s ++ flat_map next_struct ss
+
 abbrev pub written_source : Text → List Spaced
 written_source t = close K.Word (codes "source_filename") ∷ apart K.Equals (codes "=") ∷ apart K.Str t ∷ []
 
-abbrev pub written_file : (source : Option Text) → List Function → List Spaced
-written_file (Some t) fs = written_source t ++ flat_map next_function fs
-written_file None [] = []
-written_file None (f ∷ fs) = written_function (codes "\n") f ++ flat_map next_function fs
+-- the structs stand before the functions; the first line behind the name of the module stands after a blank line
+abbrev pub written_file : (source : Option Text) → List StructLine → List Function → List Spaced
+written_file (Some t) ss fs = written_source t ++ (written_structs (codes "\n\n") ss ++ flat_map next_function fs)
+written_file None [] [] = []
+written_file None [] (f ∷ fs) = written_function (codes "\n") f ++ flat_map next_function fs
+written_file None (s ∷ ss) fs = written_structs (codes "\n") (s ∷ ss) ++ flat_map next_function fs
 
 abbrev pub written : File → List Spaced
-written f = written_file f.source f.functions
+written f = written_file f.source f.structs f.functions
 
 -- behind the last token: a line end, where there is one
 abbrev pub end_of : List Spaced → Text

@@ -6,6 +6,7 @@ use Rattle.llvm_core.specs.declared.numbers.LLVMType.{LLVMType}
 use Rattle.llvm_core.specs.Parts.{IsTypeOver}
 use Rattle.llvm_core.specs.Data.{trees_of, type_at, types_at}
 use Rattle.support.proofs.KeepLaws.{keeps_then, keeps_appended}
+use Rattle.ll_literals.specs.Names.{local, printed_name}
 use Rattle.ll_print.specs.Printing.{vector_open, counted_text, type_text}
 use Rattle.ll_print.proofs.FieldLaws.{reach_at, reach_most, parts_there, first_field, gap_put, fields_strung, struct_put}
 use Rattle.ll_print.proofs.StrungLaws.{behind_comma, strung_put, strung_all}
@@ -56,6 +57,12 @@ put_type-returns-in-Literal-clause-text t c =
     ok_is _ _ _ _ _ c.put_struct.ensures.text
     (type_text-kind c.args.m.now c.args.ty _ c.requires.sound (rw c.in-Literal.is at c.type_kind.ensures.kind)
     ∙ ap (λ (ts : List LLVMType). type_text (StructType c.in-Literal.layout (types_at (trees_of c.args.m.now).types ts))) (sym c.as_slice.ensures))
+
+pub put_type-returns-in-Named-clause-text : goal.put_type-returns-in-Named-clause-text
+put_type-returns-in-Named-clause-text t c =
+    ok_is _ _ _ _ _ c.put_named.ensures.text
+    (type_text-kind c.args.m.now c.args.ty _ c.requires.sound (rw c.in-Named.is at c.type_kind.ensures.kind)
+    ∙ ap (λ (n : List ℕ). local (printed_name n)) (sym c.as_str.ensures))
 
 pub put_type-returns-in-Function-clause-text : goal.put_type-returns-in-Function-clause-text
 put_type-returns-in-Function-clause-text t c =

@@ -1,0 +1,201 @@
+-- Each name in a type in use is that of a struct of the module, and so one that a text can say.
+use Rattle.std.proofs.Common.{◌≡◌, ℕ, zero, suc, Bool, true, false, cond, nat_eq, List, [], ◌∷◌, ◌++◌, map, slice_get, Option, Some, None, refl, ap, ◌∙◌, subst, arith}
+use Rattle.std.specs.Prelude.{IfSome}
+use Rattle.std.specs.List.{flat_map, find, AllByRecursion}
+use Rattle.std.specs.Option.{option_map, option_map_or}
+use Rattle.std.specs.Str.{bytes_eq}
+use Rattle.std.proofs.lemmas.List.Elements.{recursion_from_All}
+use Rattle.std.proofs.lemmas.Option.{slice_get-map}
+use Rattle.std.proofs.lemmas.Slice.Eq.{bytes_eq-Decides}
+use Rattle.support.specs.Interned.{IsDistinctList}
+use Rattle.kinds.specs.Types.{TypeTree, VoidType, IntType, PointerType, FloatingType, RefusedType, ArrayType, VectorType, StructType, NamedType, FunctionType, TypeTrees, NoTypes, ThenType, result_of, takes_of}
+use Rattle.kinds.specs.Structs.{StructBody, Struct, struct_in, each_type, each_field, nests, IsNested, IsFormStruct}
+use Rattle.kinds.specs.Held.{deepest, each_throughout}
+use Rattle.kinds.specs.Fitting.{is_first_class}
+use Rattle.kinds.specs.Names.{is_good_name}
+use Rattle.kinds.proofs.TypeLaws.{and_left, and_right}
+use Rattle.kinds.proofs.HeldLaws.{first_class_by}
+use Rattle.kinds.proofs.NestLaws.{nested_shallow}
+use Rattle.llvm_core.specs.Data.{IntConst, PlaceholderConst, Operand, Constant, Parameter, Result, Placed, Function, ModuleData, nth_type, param_type, operand_type, placed_in}
+use Rattle.llvm_core.specs.Form.{IsOperandOf, types_in}
+use Rattle.ll_lines.specs.Lines.{Text}
+use Rattle.ll_said.specs.Said.{struct_of}
+use Rattle.ll_said.specs.Sayable.{IsSayableModule}
+use Rattle.ll_written.specs.Writable.{has_good_names, have_good_names, IsBody, IsStruct}
+use Rattle.ll_written.proofs.NameForms.{struct_form}
+
+-- ---- lists
+
+pub all_front : {A : Type 0} (Q : A → Type 0) (xs ys : List A) → AllByRecursion Q (xs ++ ys) → AllByRecursion Q xs
+all_front Q [] ys h = tt
+all_front Q (x ∷ xs) ys h = (h.0, all_front Q xs ys h.1)
+
+pub all_back : {A : Type 0} (Q : A → Type 0) (xs ys : List A) → AllByRecursion Q (xs ++ ys) → AllByRecursion Q ys
+all_back Q [] ys h = h
+all_back Q (x ∷ xs) ys h = all_back Q xs ys h.1
+
+-- ---- types that nest over structs with good names
+
+find_named : (q : Struct → Bool) (name : Text) (xs : List Struct) → AllByRecursion IsFormStruct xs → option_map_or q (struct_in xs name) false ≡ true → is_good_name name ≡ true
+find_named q name [] all e = cc
+find_named q name (x ∷ xs) all e = by (bytes_eq x.name name) refl (find_named q name xs all.1) e
+  where
+    by : (b : Bool) → bytes_eq x.name name ≡ b → (option_map_or q (struct_in xs name) false ≡ true → is_good_name name ≡ true) → option_map_or q (cond b (Some x) (struct_in xs name)) false ≡ true → is_good_name name ≡ true
+    by true is others e = subst (λ (n : Text). is_good_name n ≡ true) ((bytes_eq-Decides x.name name).0 is) all.0.name
+    by false is others e = others e
+
+module _ (structs : List Struct) (all : AllByRecursion IsFormStruct structs) where
+  mutual
+    -- a line for each kind
+    names_good : (n : ℕ) (t : TypeTree) → nests structs n t ≡ true → has_good_names t ≡ true
+    names_good zero t h = cc
+    names_good (suc n) (NamedType name) h = find_named (each_field (nests structs n)) name structs all h
+    names_good (suc n) (ArrayType c t) h = names_good n t h
+    names_good (suc n) (VectorType k c t) h = names_good n t h
+    names_good (suc n) (StructType l ts) h = each_good n ts h
+    names_good (suc n) (FunctionType r ps v) h =
+        let a = names_good n r (and_left (nests structs n r) (each_type (nests structs n) ps) h) in
+        let b = each_good n ps (and_right (nests structs n r) (each_type (nests structs n) ps) h) in
+        cc
+    names_good (suc n) VoidType h = refl
+    names_good (suc n) (IntType w) h = refl
+    names_good (suc n) (PointerType s) h = refl
+    names_good (suc n) (FloatingType a) h = refl
+    names_good (suc n) (RefusedType a) h = refl
+
+    each_good : (n : ℕ) (ts : TypeTrees) → each_type (nests structs n) ts ≡ true → have_good_names ts ≡ true
+    each_good n NoTypes h = refl
+    each_good n (ThenType t ts) h =
+        let a = names_good n t (and_left (nests structs n t) (each_type (nests structs n) ts) h) in
+        let b = each_good n ts (and_right (nests structs n t) (each_type (nests structs n) ts) h) in
+        cc
+
+  nested_good : (t : TypeTree) → IsNested structs t → has_good_names t ≡ true
+  nested_good t h = names_good deepest t h
+
+-- ---- structs
+
+-- a struct of a list without two of one name is the one of its name
+struct_there : (xs : List Struct) → IsDistinctList (map (λ (s : Struct). s.name) xs) → (i : ℕ) (s : Struct) → slice_get xs i ≡ Some s → struct_in xs s.name ≡ Some s
+struct_there [] once i s at = cc
+struct_there (x ∷ xs) once zero s at =
+    let same : x ≡ s = cc in
+    let own : bytes_eq x.name s.name ≡ true = (bytes_eq-Decides x.name s.name).1 (ap (λ (y : Struct). y.name) same) in
+    rw own (ap Some same)
+struct_there (x ∷ xs) once (suc i) s at = by (bytes_eq x.name s.name) refl (struct_there xs (λ j k n a b. omega (arith, once (suc j) (suc k) n a b)) i s at)
+  where
+    named : slice_get (map (λ (y : Struct). y.name) xs) i ≡ Some s.name
+    named = slice_get-map (λ (y : Struct). y.name) xs i ∙ ap (option_map (λ (y : Struct). y.name)) at
+
+    by : (b : Bool) → bytes_eq x.name s.name ≡ b → struct_in xs s.name ≡ Some s → cond b (Some x) (struct_in xs s.name) ≡ Some s
+    by true is others = absurd (let twice : 0 ≡ suc i = once 0 (suc i) s.name (ap Some ((bytes_eq-Decides x.name s.name).0 is)) named in cc)
+    by false is others = others
+
+-- its fields nest as a literal struct of them
+struct_nested : (structs : List Struct) (n : ℕ) (s : Struct) (b : StructBody) → struct_in structs s.name ≡ Some s → s.body ≡ Some b → nests structs n (NamedType s.name) ≡ true → nests structs n (StructType b.layout b.fields) ≡ true
+struct_nested structs zero s b there is h = cc
+struct_nested structs (suc n) s b there is h =
+    let fields = subst (λ (o : Option Struct). option_map_or (each_field (nests structs n)) o false ≡ true) there h in
+    subst (λ (o : Option StructBody). option_map_or (λ (x : StructBody). each_type (nests structs n) x.fields) o true ≡ true) is fields
+
+module _ (structs : List Struct) (all : AllByRecursion IsFormStruct structs) where
+  body_form : (s : Struct) (o : Option StructBody) → s.body ≡ o → IsFormStruct s → struct_in structs s.name ≡ Some s → IsNested structs (NamedType s.name) → IfSome o IsBody
+  body_form s None is h there nested = tt
+  body_form s (Some b) is h there nested =
+      let deep = struct_nested structs deepest s b there is nested in
+      let fields = subst (λ (o : Option StructBody). option_map_or (λ (x : StructBody). each_throughout is_first_class x.fields) o true ≡ true) is h.fields in
+      record {
+        type = first_class_by (StructType b.layout b.fields) fields (nested_shallow structs (StructType b.layout b.fields) deep);
+        names = nested_good structs all (StructType b.layout b.fields) deep;
+      }
+
+  structs_by : (xs : List Struct) → ((i : ℕ) (s : Struct) → slice_get xs i ≡ Some s → struct_in structs s.name ≡ Some s) → AllByRecursion IsFormStruct xs → AllByRecursion (IsNested structs) (map (λ (s : Struct). NamedType s.name) xs)
+      → AllByRecursion IsStruct (map struct_of xs)
+  structs_by [] there forms nested = tt
+  structs_by (x ∷ xs) there forms nested =
+      (record { name = struct_form x.name forms.0.name; body = body_form x x.body refl forms.0 (there 0 x refl) nested.0 }, structs_by xs (λ i s at. there (suc i) s at) forms.1 nested.1)
+
+-- ---- functions
+
+-- the names in a function's types are good
+pub record AreGoodIn (f : Function) : Type 0 where
+  pub signature : has_good_names f.type ≡ true
+  pub results : AllByRecursion (λ (p : Placed). has_good_names p.type ≡ true) (placed_in f)
+
+pub result_good : (t : TypeTree) → has_good_names t ≡ true → has_good_names (result_of t) ≡ true
+result_good (FunctionType r ps v) h = and_left (has_good_names r) (have_good_names ps) h
+result_good t h = refl
+
+takes_good : (t : TypeTree) → has_good_names t ≡ true → have_good_names (takes_of t) ≡ true
+takes_good (FunctionType r ps v) h = and_right (has_good_names r) (have_good_names ps) h
+takes_good t h = refl
+
+nth_good : (ts : TypeTrees) (i : ℕ) → have_good_names ts ≡ true → has_good_names (nth_type ts i) ≡ true
+nth_good NoTypes i h = refl
+nth_good (ThenType t ts) zero h = and_left (has_good_names t) (have_good_names ts) h
+nth_good (ThenType t ts) (suc i) h = nth_good ts i (and_right (has_good_names t) (have_good_names ts) h)
+
+pub param_good : (t : TypeTree) (i : ℕ) → has_good_names t ≡ true → has_good_names (param_type t i) ≡ true
+param_good t i h = nth_good (takes_of t) i (takes_good t h)
+
+found_good : (q : Placed → Bool) (ps : List Placed) → AllByRecursion (λ (p : Placed). has_good_names p.type ≡ true) ps → has_good_names (option_map_or (λ (p : Placed). p.type) (find q ps) VoidType) ≡ true
+found_good q [] all = refl
+found_good q (p ∷ ps) all = by (q p) (found_good q ps all.1)
+  where
+    by : (b : Bool) → has_good_names (option_map_or (λ (p : Placed). p.type) (find q ps) VoidType) ≡ true → has_good_names (option_map_or (λ (p : Placed). p.type) (cond b (Some p) (find q ps)) VoidType) ≡ true
+    by true others = all.0
+    by false others = others
+
+if_good : (b : Bool) (t : TypeTree) → has_good_names t ≡ true → has_good_names (cond b t VoidType) ≡ true
+if_good true t h = h
+if_good false t h = refl
+
+-- so are those in the types of its operands
+pub operand_good : (f : Function) → AreGoodIn f → (o : Operand) → IsOperandOf f o → has_good_names (operand_type f o) ≡ true
+operand_good f good (Constant (IntConst w n)) stands = refl
+operand_good f good (Constant (PlaceholderConst n type)) stands = absurd stands
+operand_good f good (Parameter g i) stands = if_good (nat_eq g f.number) (param_type f.type i) (param_good f.type i good.signature)
+operand_good f good (Result n) stands = found_good (λ (p : Placed). nat_eq p.number n) (placed_in f) good.results
+
+-- ---- modules
+
+functions_good : (structs : List Struct) → AllByRecursion IsFormStruct structs → (fs : List Function) → AllByRecursion (IsNested structs) (map (λ (f : Function). f.type) fs) → AllByRecursion (IsNested structs) (map (λ (p : Placed). p.type) (flat_map placed_in fs))
+    → AllByRecursion AreGoodIn fs
+functions_good structs all [] signatures results = tt
+functions_good structs all (f ∷ fs) signatures results =
+    (record { signature = nested_good structs all f.type signatures.0; results = firsts (placed_in f) (flat_map placed_in fs) results }, functions_good structs all fs signatures.1 (others (placed_in f) (flat_map placed_in fs) results))
+  where
+    firsts : (ps qs : List Placed) → AllByRecursion (IsNested structs) (map (λ (p : Placed). p.type) (ps ++ qs)) → AllByRecursion (λ (p : Placed). has_good_names p.type ≡ true) ps
+    firsts [] qs h = tt
+    firsts (p ∷ ps) qs h = (nested_good structs all p.type h.0, firsts ps qs h.1)
+
+    others : (ps qs : List Placed) → AllByRecursion (IsNested structs) (map (λ (p : Placed). p.type) (ps ++ qs)) → AllByRecursion (IsNested structs) (map (λ (p : Placed). p.type) qs)
+    others [] qs h = h
+    others (p ∷ ps) qs h = others ps qs h.1
+
+module _ (d : ModuleData) (h : IsSayableModule d) where
+  abbrev signatures : List TypeTree
+  signatures = map (λ (f : Function). f.type) d.functions
+
+  abbrev results : List TypeTree
+  results = map (λ (p : Placed). p.type) (flat_map placed_in d.functions)
+
+  abbrev named : List TypeTree
+  named = map (λ (s : Struct). NamedType s.name) d.structs
+
+  forms : AllByRecursion IsFormStruct d.structs
+  forms = recursion_from_All IsFormStruct d.structs h.structs
+
+  nested : AllByRecursion (IsNested d.structs) (types_in d)
+  nested = recursion_from_All (IsNested d.structs) (types_in d) h.nested
+
+  early : AllByRecursion (IsNested d.structs) (named ++ signatures)
+  early = all_front (IsNested d.structs) (named ++ signatures) results nested
+
+  -- the names in the types of each function are good
+  pub good_functions : AllByRecursion AreGoodIn d.functions
+  good_functions = functions_good d.structs forms d.functions (all_back (IsNested d.structs) named signatures early) (all_back (IsNested d.structs) (named ++ signatures) results nested)
+
+  -- and its structs may be written
+  pub structs_form : AllByRecursion IsStruct (map struct_of d.structs)
+  structs_form = structs_by d.structs forms d.structs (struct_there d.structs h.struct_names) forms (all_front (IsNested d.structs) named signatures early)
