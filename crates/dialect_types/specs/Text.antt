@@ -8,7 +8,7 @@ use Rattle.kinds.specs.declared.types.VectorTypeKind.TheVariants as V
 use Rattle.kinds.specs.declared.types.StructLayout.{StructLayout}
 use Rattle.kinds.specs.declared.types.StructLayout.TheVariants as L
 pub use Rattle.support.specs.Appended.{Keeps}
-use Rattle.dialect_types.specs.Trees.{TypeTree, VoidType, IntType, PointerType, FloatingType, RefusedType, ArrayType, VectorType, StructType, FunctionType, TypeTrees, NoTypes, ThenType, AttrTree, IntegerAttr}
+use Rattle.dialect_types.specs.Trees.{TypeTree, VoidType, IntType, PointerType, FloatingType, RefusedType, ArrayType, VectorType, StructType, NamedType, FunctionType, TypeTrees, NoTypes, ThenType, AttrTree, IntegerAttr}
 
 -- the word of a truth value
 abbrev pub truth_text : Bool → List ℕ
@@ -63,6 +63,8 @@ abbrev mutual
   type_text (ArrayType count t) = counted_text (codes "llvm.array [") count (type_text t)
   type_text (VectorType kind count t) = counted_text (vector_head kind) count (type_text t)
   type_text (StructType layout ts) = struct_head layout ++ joined (type_texts ts) ++ codes "}>"
+  -- no type of the dialect yet
+  type_text (NamedType name) = []
   type_text (FunctionType result params variadic) =
       codes "llvm.func <" ++ type_text result ++ codes " (" ++ joined (type_texts params) ++ codes ") variadic = " ++ truth_text variadic ++ codes ">"
 

@@ -36,9 +36,9 @@ mutual
   term_same (Answer n) = refl
   term_same Unset = refl
   term_same (Int w v) = refl
-  term_same (ListOf ty ts) = cc (type_stays same_places ty, terms_same ts)
-  term_same (Expr o ty ts) = cc (type_stays same_places ty, terms_same ts)
-  term_same (Insert ty a p e) = cc (type_stays same_places ty, term_same a, path_same p, term_same e)
+  term_same (ListOf ty ts) = cc (type_stays ty, terms_same ts)
+  term_same (Expr o ty ts) = cc (type_stays ty, terms_same ts)
+  term_same (Insert ty a p e) = cc (type_stays ty, term_same a, path_same p, term_same e)
 
   terms_same : (ts : Terms) → rename_all same_places ts ≡ ts
   terms_same NoTerms = refl
@@ -50,7 +50,7 @@ mutual
 
 item_same : (n : List ℕ) (i : Item) → under same_places n i ≡ i
 item_same n (Entered b) = refl
-item_same n (Event o ty tys ts) = cc (type_stays same_places ty, map_same (rename_type same_places) (type_stays same_places) tys, map_same (rename same_places) term_same ts)
+item_same n (Event o ty tys ts) = cc (type_stays ty, map_same (rename_type same_places) type_stays tys, map_same (rename same_places) term_same ts)
 
 pub items_same : (n : List ℕ) (items : List Item) → map (under same_places n) items ≡ items
 items_same n items = map_same (under same_places n) (item_same n) items

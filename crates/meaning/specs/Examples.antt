@@ -66,7 +66,7 @@ answer_function = record {
 }
 
 abbrev pub answer : L.ModuleData
-answer = record { name = []; functions = answer_function ∷ [] }
+answer = record { name = []; structs = []; functions = answer_function ∷ [] }
 
 -- the same in the dialect
 abbrev pub answer_func : D.Func
@@ -106,7 +106,7 @@ echo = record {
 }
 
 abbrev pub echo_module : L.ModuleData
-echo_module = record { name = []; functions = echo ∷ [] }
+echo_module = record { name = []; structs = []; functions = echo ∷ [] }
 
 -- the match that leaves all where it is
 abbrev pub same_places : Match
@@ -136,7 +136,7 @@ sums = record {
 }
 
 abbrev pub sums_module : L.ModuleData
-sums_module = record { name = []; functions = sums ∷ [] }
+sums_module = record { name = []; structs = []; functions = sums ∷ [] }
 
 -- the same in the dialect, with the constant first
 abbrev pub sums_func : D.Func
@@ -194,7 +194,7 @@ swap = record {
 }
 
 abbrev pub swap_module : L.ModuleData
-swap_module = record { name = []; functions = swap ∷ [] }
+swap_module = record { name = []; structs = []; functions = swap ∷ [] }
 
 -- the same in the dialect: the loop's edge to itself passes its two arguments the other way round
 abbrev pub swap_func : D.Func
@@ -269,7 +269,7 @@ lacking = record {
 }
 
 abbrev pub lacking_module : L.ModuleData
-lacking_module = record { name = []; functions = lacking ∷ [] }
+lacking_module = record { name = []; structs = []; functions = lacking ∷ [] }
 
 -- an edge that passes nothing to a block of one argument
 abbrev pub lacking_func : D.Func

@@ -5,7 +5,7 @@ use Rattle.kinds.specs.declared.op.Op.{Op}
 use Rattle.kinds.specs.declared.rules.Family.{Family}
 use Rattle.kinds.specs.declared.rules.Family.TheVariants.{Shows, Builds}
 use Rattle.kinds.specs.Table.{rule_of}
-use Rattle.kinds.specs.Types.{TypeTree, VoidType, IntType, PointerType, FloatingType, RefusedType, ArrayType, VectorType, StructType, FunctionType, TypeTrees, NoTypes, ThenType}
+use Rattle.kinds.specs.Types.{TypeTree, VoidType, IntType, PointerType, FloatingType, RefusedType, ArrayType, VectorType, StructType, NamedType, FunctionType, TypeTrees, NoTypes, ThenType}
 
 -- ---- terms
 
@@ -108,6 +108,7 @@ abbrev mutual
   rename_type match (ArrayType count t) = ArrayType count (rename_type match t)
   rename_type match (VectorType kind count t) = VectorType kind count (rename_type match t)
   rename_type match (StructType layout ts) = StructType layout (rename_types match ts)
+  rename_type match (NamedType name) = NamedType (match.struct name)
   rename_type match (FunctionType r ps v) = FunctionType (rename_type match r) (rename_types match ps) v
 
   pub rename_types : Match → TypeTrees → TypeTrees

@@ -46,7 +46,7 @@ late = record {
 }
 
 abbrev pub late_module : L.ModuleData
-late_module = record { name = []; functions = late ∷ [] }
+late_module = record { name = []; structs = []; functions = late ∷ [] }
 
 -- the same in the dialect: the loop sets the constant
 abbrev pub late_func : D.Func
