@@ -1,10 +1,11 @@
 -- The lemmas of the crate.
 pub mod NumberLaws
 pub mod ReadingLaws
+pub mod PlainLaws
+pub mod PartLaws
+pub mod ListLaws
 pub mod TokenLaws
-pub mod StepLaws
-pub mod GoingLaws
 pub mod StoreLaws
-pub mod WrittenLaws
+pub mod SpellLaws
 pub mod NumberTexts
 pub mod TextLaws

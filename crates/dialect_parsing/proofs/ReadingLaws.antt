@@ -1,16 +1,161 @@
--- What a type is written as is read as that type, and as no other.
-use Rattle.std.proofs.Common.{◌≡◌, ◌<◌, ◌≤◌, ◌+◌, ◌^◌, ℕ, List, [], ◌∷◌, ◌++◌, Some, None, true, length, max, refl, sym, ap, ◌∙◌, arith}
-use Rattle.std.proofs.lemmas.Bool.Decides.{nat_tests}
+-- Symbols write one type at most, before what stands behind it, and one list of types.
+use Rattle.std.proofs.Common.{◌≡◌, ◌<◌, ◌≤◌, ℕ, Bool, true, false, List, [], ◌∷◌, length, refl, sym, ap, ◌∙◌, arith}
 use Rattle.std.proofs.lemmas.Option.{same_Some}
-use Rattle.std.specs.Prelude.{nat_lt, Bool}
-use Rattle.kinds.specs.Types.{depth, depths}
-use Rattle.dialect_types.specs.Trees.{TypeTree, VoidType, IntType, PointerType, FloatingType, RefusedType, ArrayType, VectorType, StructType, FunctionType, TypeTrees, NoTypes, ThenType}
+use Rattle.kinds.specs.declared.types.VectorTypeKind.{VectorTypeKind}
+use Rattle.kinds.specs.declared.types.VectorTypeKind.TheVariants as V
+use Rattle.kinds.specs.declared.types.StructLayout.{StructLayout}
+use Rattle.kinds.specs.declared.types.StructLayout.TheVariants as L
+use Rattle.kinds.specs.Types.{depth}
+use Rattle.dialect_types.specs.Trees.{TypeTree, VoidType, IntType, PointerType, FloatingType, RefusedType, ArrayType, VectorType, StructType, NamedType, FunctionType, TypeTrees, NoTypes, ThenType}
 use Rattle.dialect_parsing.specs.declared.symbol.Symbol.{Symbol}
 use Rattle.dialect_parsing.specs.declared.symbol.Symbol.TheVariants as S
-use Rattle.dialect_parsing.specs.Reading.{OpenTree, InResult, InParams, types_before, most_open, is_width, is_space, read}
-use Rattle.dialect_parsing.specs.Spelling.{written, listed, others, IsOfDialect, AreOfDialect, Spells}
+use Rattle.dialect_parsing.specs.Reading.{closes, IsRead}
+use Rattle.dialect_parsing.specs.Spelling.{scaled, laid, written, listed, others, IsOfDialect, AreOfDialect, Spells}
+use Rattle.dialect_parsing.specs.Tokens.{Text}
 
--- ---- a type of the dialect is read
+-- ---- the words before a number of elements and before fields
+
+pub one_scale : (k l : VectorTypeKind) (n m : ℕ) (ss us : List Symbol) → scaled k (S.Number n ∷ ss) ≡ scaled l (S.Number m ∷ us) → (k ≡ l) × (n ≡ m) × (ss ≡ us)
+one_scale V.Fixed V.Fixed n m ss us e = (refl, cc, cc)
+one_scale V.Fixed V.Scalable n m ss us e = cc
+one_scale V.Scalable V.Fixed n m ss us e = cc
+one_scale V.Scalable V.Scalable n m ss us e = (refl, cc, cc)
+
+pub one_layout : (l k : StructLayout) (ss us : List Symbol) → laid l (S.OpenBrace ∷ ss) ≡ laid k (S.OpenBrace ∷ us) → (l ≡ k) × (ss ≡ us)
+one_layout L.Unpacked L.Unpacked ss us e = (refl, cc)
+one_layout L.Unpacked L.Packed ss us e = cc
+one_layout L.Packed L.Unpacked ss us e = cc
+one_layout L.Packed L.Packed ss us e = (refl, cc)
+
+-- ---- no type begins with a sign that closes a list, and no comma is one
+
+abbrev begins_closed : List Symbol → Bool
+begins_closed [] = false
+begins_closed (s ∷ ss) = closes s
+
+type_opens : (t : TypeTree) (ss : List Symbol) → IsOfDialect t → begins_closed (written t ss) ≡ false
+type_opens (RefusedType of) ss fine = absurd fine
+type_opens (NamedType name) ss fine = absurd fine
+type_opens t ss fine = refl
+
+pub not_type : (c : Symbol) (t : TypeTree) (ss us : List Symbol) → closes c ≡ true → IsOfDialect t → c ∷ ss ≡ written t us → ⊥
+not_type c t ss us close fine e =
+    let both : true ≡ false = sym close ∙ ap begins_closed e ∙ type_opens t us fine in
+    cc
+
+pub not_comma : (c : Symbol) (ss us : List Symbol) → closes c ≡ true → c ∷ ss ≡ S.Comma ∷ us → ⊥
+not_comma c ss us close e =
+    let both : true ≡ false = sym close ∙ ap begins_closed e in
+    cc
+
+-- ---- one type, and one list
+
+mutual
+  pub one : (t u : TypeTree) (ss us : List Symbol) → IsOfDialect t → IsOfDialect u → written t ss ≡ written u us → (t ≡ u) × (ss ≡ us)
+  one (RefusedType of) u ss us ft fu e = absurd ft
+  one (NamedType name) u ss us ft fu e = absurd ft
+  one t (RefusedType of) ss us ft fu e = absurd fu
+  one t (NamedType name) ss us ft fu e = absurd fu
+  one VoidType VoidType ss us ft fu e = (refl, cc)
+  one (IntType w) (IntType v) ss us ft fu e = (cc, cc)
+  one (PointerType m) (PointerType n) ss us ft fu e = (cc, cc)
+  one (FloatingType a) (FloatingType b) ss us ft fu e = (cc, cc)
+  one (ArrayType m t) (ArrayType n u) ss us ft fu e =
+      let k = one t u (S.CloseBracket ∷ ss) (S.CloseBracket ∷ us) ft.1 fu.1 (cc) in
+      let a = k.0 in
+      let b = k.1 in
+      (cc, cc)
+  one (VectorType j m t) (VectorType l n u) ss us ft fu e =
+      let s = one_scale j l m n (S.Times ∷ written t (S.CloseBracket ∷ ss)) (S.Times ∷ written u (S.CloseBracket ∷ us)) (cc) in
+      let c = s.0 in
+      let d = s.1 in
+      let f = s.2 in
+      let k = one t u (S.CloseBracket ∷ ss) (S.CloseBracket ∷ us) ft.1 fu.1 (cc) in
+      let a = k.0 in
+      let b = k.1 in
+      (cc, cc)
+  one (StructType j ts) (StructType l vs) ss us ft fu e =
+      let s = one_layout j l (listed ts (S.CloseBrace ∷ S.Greater ∷ ss)) (listed vs (S.CloseBrace ∷ S.Greater ∷ us)) (cc) in
+      let c = s.0 in
+      let k = one_list S.CloseBrace ts vs (S.Greater ∷ ss) (S.Greater ∷ us) refl ft.1 fu.1 s.1 in
+      let a = k.0 in
+      let b = k.1 in
+      (cc, cc)
+  one (FunctionType r ps v) (FunctionType q qs w) ss us ft fu e =
+      let end = S.Variadic ∷ S.Equals ∷ S.Truth v ∷ S.Greater ∷ ss in
+      let stop = S.Variadic ∷ S.Equals ∷ S.Truth w ∷ S.Greater ∷ us in
+      let k = one r q (S.OpenParen ∷ listed ps (S.CloseParen ∷ end)) (S.OpenParen ∷ listed qs (S.CloseParen ∷ stop)) ft.0 fu.0 (cc) in
+      let a = k.0 in
+      let b = k.1 in
+      let l = one_list S.CloseParen ps qs end stop refl ft.1 fu.1 (cc) in
+      let c = l.0 in
+      let d = l.1 in
+      (cc, cc)
+  one t u ss us ft fu e = cc
+
+  pub one_list : (c : Symbol) (ts us : TypeTrees) (ss vs : List Symbol) → closes c ≡ true → AreOfDialect ts → AreOfDialect us → listed ts (c ∷ ss) ≡ listed us (c ∷ vs) → (ts ≡ us) × (ss ≡ vs)
+  one_list c NoTypes NoTypes ss vs close ft fu e = (refl, cc)
+  one_list c NoTypes (ThenType u us) ss vs close ft fu e = absurd (not_type c u ss _ close fu.0 e)
+  one_list c (ThenType t ts) NoTypes ss vs close ft fu e = absurd (not_type c t vs _ close ft.0 (sym e))
+  one_list c (ThenType t ts) (ThenType u us) ss vs close ft fu e =
+      let k = one t u (others ts (c ∷ ss)) (others us (c ∷ vs)) ft.0 fu.0 e in
+      let a = k.0 in
+      let l = one_others c ts us ss vs close ft.1 fu.1 k.1 in
+      let b = l.0 in
+      (cc, l.1)
+
+  one_others : (c : Symbol) (ts us : TypeTrees) (ss vs : List Symbol) → closes c ≡ true → AreOfDialect ts → AreOfDialect us → others ts (c ∷ ss) ≡ others us (c ∷ vs) → (ts ≡ us) × (ss ≡ vs)
+  one_others c NoTypes NoTypes ss vs close ft fu e = (refl, cc)
+  one_others c NoTypes (ThenType u us) ss vs close ft fu e = absurd (not_comma c ss _ close e)
+  one_others c (ThenType t ts) NoTypes ss vs close ft fu e = absurd (not_comma c vs _ close (sym e))
+  one_others c (ThenType t ts) (ThenType u us) ss vs close ft fu e =
+      let k = one t u (others ts (c ∷ ss)) (others us (c ∷ vs)) ft.0 fu.0 (cc) in
+      let a = k.0 in
+      let l = one_others c ts us ss vs close ft.1 fu.1 k.1 in
+      let b = l.0 in
+      (cc, l.1)
+
+pub one_type : (bytes : Text) (t u : TypeTree) → Spells bytes t → Spells bytes u → t ≡ u
+one_type bytes t u h k = (one t u [] [] h.1 k.1 (same_Some _ _ (sym h.0 ∙ k.0))).0
+
+-- ---- a type is written as one symbol at least
+
+longer_scale : (k : VectorTypeKind) (ss : List Symbol) → length ss ≤ length (scaled k ss)
+longer_scale V.Fixed ss = omega arith
+longer_scale V.Scalable ss = omega arith
+
+longer_layout : (l : StructLayout) (ss : List Symbol) → length ss ≤ length (laid l ss)
+longer_layout L.Unpacked ss = omega arith
+longer_layout L.Packed ss = omega arith
+
+mutual
+  pub longer : (t : TypeTree) (ss : List Symbol) → IsOfDialect t → length ss < length (written t ss)
+  longer VoidType ss fine = omega arith
+  longer (IntType w) ss fine = omega arith
+  longer (PointerType n) ss fine = omega arith
+  longer (FloatingType of) ss fine = omega arith
+  longer (RefusedType of) ss fine = absurd fine
+  longer (NamedType name) ss fine = absurd fine
+  longer (ArrayType n t) ss fine = omega (arith, longer t (S.CloseBracket ∷ ss) fine.1)
+  longer (VectorType k n t) ss fine = omega (arith, longer t (S.CloseBracket ∷ ss) fine.1, longer_scale k (S.Number n ∷ S.Times ∷ written t (S.CloseBracket ∷ ss)))
+  longer (StructType l ts) ss fine =
+      omega (arith, longer_list ts (S.CloseBrace ∷ S.Greater ∷ ss) fine.1, longer_layout l (S.OpenBrace ∷ listed ts (S.CloseBrace ∷ S.Greater ∷ ss)))
+  longer (FunctionType r ps v) ss fine =
+      let end = S.CloseParen ∷ S.Variadic ∷ S.Equals ∷ S.Truth v ∷ S.Greater ∷ ss in
+      omega (arith, longer r (S.OpenParen ∷ listed ps end) fine.0, longer_list ps end fine.1)
+
+  longer_list : (ts : TypeTrees) (ss : List Symbol) → AreOfDialect ts → length ss ≤ length (listed ts ss)
+  longer_list NoTypes ss fine = omega arith
+  longer_list (ThenType t ts) ss fine = omega (arith, longer t (others ts ss) fine.0, longer_others ts ss fine.1)
+
+  longer_others : (ts : TypeTrees) (ss : List Symbol) → AreOfDialect ts → length ss ≤ length (others ts ss)
+  longer_others NoTypes ss fine = omega arith
+  longer_others (ThenType t ts) ss fine = omega (arith, longer t (others ts ss) fine.0, longer_others ts ss fine.1)
+
+-- ---- a type that was read
+
+pub read_shorter : (room : ℕ) (t : TypeTree) (ss us : List Symbol) → IsRead room ss t us → length us < length ss
+read_shorter room t ss us h = omega (arith, longer t us h.fine, ap length h.is)
 
 depth-pos : (t : TypeTree) → 1 ≤ depth t
 depth-pos (ArrayType n t) = omega arith
@@ -19,66 +164,14 @@ depth-pos (StructType l ts) = omega arith
 depth-pos (FunctionType r ps v) = omega arith
 depth-pos t = omega arith
 
-width_is : (w : ℕ) → (1 ≤ w) × (w ≤ 2 ^ 23) → is_width w ≡ true
-width_is w h = let a = h.0 in let b = h.1 in grind (arith, nat_tests)
+-- where there is no room
+pub no_room : (ss : List Symbol) (t : TypeTree) (us : List Symbol) → IsRead 0 ss t us → ⊥
+no_room ss t us h = let least = depth-pos t in let most = h.fits in omega arith
 
-space_is : (n : ℕ) → n < 2 ^ 24 → is_space n ≡ true
-space_is n h = grind (arith, nat_tests)
+-- where no symbol is left
+pub no_symbol : (room : ℕ) (t : TypeTree) (us : List Symbol) → IsRead room [] t us → ⊥
+no_symbol room t us h = let l = read_shorter room t [] us h in omega arith
 
-room_is : (k n : ℕ) → 2 ≤ n → n + k ≤ 1000 → nat_lt k most_open ≡ true
-room_is k n two h = grind (arith, nat_tests)
-
--- no type is written as a parenthesis that closes
-first_param : (os : List OpenTree) (r t : TypeTree) (ss : List Symbol) → IsOfDialect t → read (InResult ∷ os) (Some r) (S.OpenParen ∷ written t ss) ≡ read (InParams r [] ∷ os) None (written t ss)
-first_param os r (RefusedType of) ss h = absurd h
-first_param os r (ArrayType n t) ss h = absurd h
-first_param os r (VectorType k n t) ss h = absurd h
-first_param os r (StructType l ts) ss h = absurd h
-first_param os r t ss h = refl
-
-types_before-push : (qs : List TypeTree) (p : TypeTree) (ts : TypeTrees) → types_before (qs ++ p ∷ []) ts ≡ types_before qs (ThenType p ts)
-types_before-push [] p ts = refl
-types_before-push (q ∷ qs) p ts = ap (ThenType q) (types_before-push qs p ts)
-
-mutual
-  pub is_read : (os : List OpenTree) (t : TypeTree) (ss : List Symbol) → IsOfDialect t → depth t + length os ≤ 1000 → read os None (written t ss) ≡ read os (Some t) ss
-  is_read os VoidType ss fine fits = refl
-  is_read os (IntType w) ss fine fits = rw (width_is w fine) refl
-  is_read os (PointerType n) ss fine fits = rw (space_is n fine) refl
-  is_read os (FloatingType of) ss fine fits = refl
-  is_read os (RefusedType of) ss fine fits = absurd fine
-  is_read os (ArrayType n t) ss fine fits = absurd fine
-  is_read os (VectorType k n t) ss fine fits = absurd fine
-  is_read os (StructType l ts) ss fine fits = absurd fine
-  is_read os (FunctionType r ps v) ss fine fits =
-      let deep = depth-pos r in
-      let room = room_is (length os) (1 + max (depth r) (depths ps)) (omega arith) fits in
-      let end = S.CloseParen ∷ S.Variadic ∷ S.Equals ∷ S.Truth v ∷ S.Greater ∷ ss in
-      rw room (is_read (InResult ∷ os) r (S.OpenParen ∷ listed ps end) fine.0 (omega arith) ∙ are_read os r ps v ss fine.1 (omega arith))
-
-  are_read : (os : List OpenTree) (r : TypeTree) (ps : TypeTrees) (v : Bool) (ss : List Symbol) → AreOfDialect ps → depths ps + (1 + length os) ≤ 1000
-      → read (InResult ∷ os) (Some r) (S.OpenParen ∷ listed ps (S.CloseParen ∷ S.Variadic ∷ S.Equals ∷ S.Truth v ∷ S.Greater ∷ ss)) ≡ read os (Some (FunctionType r ps v)) ss
-  are_read os r NoTypes v ss fine fits = refl
-  are_read os r (ThenType p ps) v ss fine fits =
-      first_param os r p _ fine.0
-      ∙ is_read (InParams r [] ∷ os) p _ fine.0 (omega arith)
-      ∙ others_read os r [] p ps v ss fine.1 (omega arith)
-
-  others_read : (os : List OpenTree) (r : TypeTree) (qs : List TypeTree) (p : TypeTree) (ps : TypeTrees) (v : Bool) (ss : List Symbol) → AreOfDialect ps → depths ps + (1 + length os) ≤ 1000
-      → read (InParams r qs ∷ os) (Some p) (others ps (S.CloseParen ∷ S.Variadic ∷ S.Equals ∷ S.Truth v ∷ S.Greater ∷ ss)) ≡ read os (Some (FunctionType r (types_before qs (ThenType p ps)) v)) ss
-  others_read os r qs p NoTypes v ss fine fits = refl
-  others_read os r qs p (ThenType t ts) v ss fine fits =
-      is_read (InParams r (qs ++ p ∷ []) ∷ os) t _ fine.0 (omega arith)
-      ∙ others_read os r (qs ++ p ∷ []) t ts v ss fine.1 (omega arith)
-      ∙ ap (λ (us : TypeTrees). read os (Some (FunctionType r us v)) ss) (types_before-push qs p (ThenType t ts))
-
--- a type that can be written is what its symbols are read as
-pub written_is_read : (t : TypeTree) → IsOfDialect t → depth t ≤ 1000 → read [] None (written t []) ≡ Some t
-written_is_read t fine fits = is_read [] t [] fine (omega arith)
-
-pub one_type : (bytes : List ℕ) (t u : TypeTree) → Spells bytes t → Spells bytes u → t ≡ u
-one_type bytes t u a b =
-    let x = written_is_read t a.1 a.2 in
-    let y = written_is_read u b.1 b.2 in
-    let same : written t [] ≡ written u [] = same_Some _ _ (sym a.0 ∙ b.0) in
-    same_Some t u (sym x ∙ ap (read [] None) same ∙ y)
+-- the type that was read is the only one
+pub read_one : (room more : ℕ) (t u : TypeTree) (ss us vs : List Symbol) → IsRead room ss t us → IsRead more ss u vs → (t ≡ u) × (us ≡ vs)
+read_one room more t u ss us vs h k = one t u us vs h.fine k.fine (sym h.is ∙ k.is)

@@ -1,15 +1,20 @@
 -- The text that is printed of a type spells it.
-use Rattle.std.proofs.Common.{◌≡◌, ◌≤◌, ℕ, Bool, true, false, List, [], ◌∷◌, ◌++◌, Option, Some, refl, sym, ap, ◌∙◌, append_assoc, arith}
+use Rattle.std.proofs.Common.{◌≡◌, ◌≤◌, ◌<◌, ◌^◌, ℕ, Bool, true, false, List, [], ◌∷◌, ◌++◌, Option, Some, refl, sym, ap, ◌∙◌, append_assoc, arith}
 use Rattle.std.proofs.lemmas.Bool.{cond-true}
+use Rattle.std.proofs.lemmas.Bool.Decides.{nat_tests}
 use Rattle.std.proofs.lemmas.List.{append-nil}
 use Rattle.std.specs.Option.{option_map}
 use Rattle.kinds.specs.Names.{is_digit}
-use Rattle.std.specs.Prelude.{codes, decimal}
+use Rattle.std.specs.Prelude.{codes, decimal, nat_le, nat_lt, not, ◌&&◌}
 use Rattle.kinds.specs.declared.types.Floating.TheVariants as F
 use Rattle.kinds.specs.declared.types.Floating.{Floating}
 use Rattle.dialect_types.specs.Text.{type_text, type_texts, joined, each_after, truth_text, floating_text}
-use Rattle.kinds.specs.Types.{depth}
-use Rattle.dialect_types.specs.Trees.{TypeTree, VoidType, IntType, PointerType, FloatingType, RefusedType, ArrayType, VectorType, StructType, FunctionType, TypeTrees, NoTypes, ThenType}
+use Rattle.kinds.specs.Types.{depth, shape}
+use Rattle.kinds.specs.Fitting.{is_field, is_amx, is_made, is_array_of, is_vector_of}
+use Rattle.kinds.specs.declared.fitting.Shape.{Shape}
+use Rattle.kinds.specs.declared.types.VectorTypeKind.TheVariants as V
+use Rattle.kinds.specs.declared.types.StructLayout.TheVariants as L
+use Rattle.dialect_types.specs.Trees.{TypeTree, VoidType, IntType, PointerType, FloatingType, RefusedType, ArrayType, VectorType, StructType, NamedType, FunctionType, TypeTrees, NoTypes, ThenType}
 use Rattle.dialect_parsing.specs.declared.symbol.Symbol.{Symbol}
 use Rattle.dialect_parsing.specs.declared.symbol.Symbol.TheVariants as S
 use Rattle.dialect_parsing.specs.Spelling.{written, listed, others, IsOfDialect, AreOfDialect, Spells}
@@ -70,6 +75,43 @@ after_ends (ThenType t ts) bs h = refl
 regroup : (a b c d e f g bs : Text) → (a ++ b ++ c ++ d ++ e ++ f ++ g) ++ bs ≡ a ++ (b ++ (c ++ (d ++ (e ++ (f ++ (g ++ bs))))))
 regroup a b c d e f g bs = simp append_assoc
 
+counted_regroup : (a b d bs : Text) → (a ++ b ++ codes " x " ++ d ++ codes "]") ++ bs ≡ a ++ (b ++ (codes " x " ++ (d ++ (codes "]" ++ bs))))
+counted_regroup a b d bs = simp append_assoc
+
+-- behind its head, what is so many of one type
+abbrev count_text : ℕ → Text → Text → Text
+count_text n element bs = decimal n ++ (codes " x " ++ (element ++ (codes "]" ++ bs)))
+
+counted_said : (n : ℕ) (element bs : Text) (es : List Symbol) → n < 2 ^ 64 → symbols_of (element ++ (codes "]" ++ bs)) ≡ Some es → symbols_of (count_text n element bs) ≡ Some (S.Number n ∷ S.Times ∷ es)
+counted_said n element bs es small h =
+    let times = word 120 [] (32 ∷ element ++ (93 ∷ bs)) S.Times es refl refl refl h in
+    number_by n (codes " x " ++ (element ++ (93 ∷ bs))) _ (numeral n small) refl times
+
+struct_regroup : (a b bs : Text) → (a ++ b ++ codes "}>") ++ bs ≡ a ++ (b ++ (codes "}>" ++ bs))
+struct_regroup a b bs = simp append_assoc
+
+-- behind its head, a struct
+abbrev fields_text : TypeTrees → Text → Text
+fields_text ts bs = 123 ∷ joined (type_texts ts) ++ (codes "}>" ++ bs)
+
+fields_end : (bs : Text) (ss : List Symbol) → symbols_of bs ≡ Some ss → symbols_of (codes "}>" ++ bs) ≡ Some (S.CloseBrace ∷ S.Greater ∷ ss)
+fields_end bs ss h = sign 125 (62 ∷ bs) S.CloseBrace _ refl refl refl (sign 62 bs S.Greater ss refl refl refl h)
+
+first_of : (a b c : Bool) → (a && b && c) ≡ true → a ≡ true
+first_of true b c h = refl
+first_of false b c h = cc
+
+second_of : (a b c d : Bool) → (a && b && c && d) ≡ true → b ≡ true
+second_of true true c d h = refl
+second_of true false c d h = cc
+second_of false b c d h = cc
+
+count_small : (n : ℕ) (s : Shape) → is_array_of n s ≡ true → n < 2 ^ 64
+count_small n s h = let small = first_of (nat_lt n (2 ^ 64)) (is_field s) (not (is_amx s)) h in grind (arith, nat_tests)
+
+lanes_small : (n : ℕ) (s : Shape) → is_vector_of n s ≡ true → n < 2 ^ 64
+lanes_small n s h = let small = second_of (nat_le 1 n) (nat_lt n (2 ^ 32)) (is_array_of n s) (not (is_made s)) h in grind (arith, nat_tests)
+
 mutual
   type_said : (t : TypeTree) → IsOfDialect t → (bs : Text) (ss : List Symbol) → begins_run bs ≡ false → symbols_of bs ≡ Some ss → symbols_of (type_text t ++ bs) ≡ Some (written t ss)
   type_said VoidType fine bs ss ends h = word 108 (codes "lvm.void") bs S.Void ss refl refl ends h
@@ -86,9 +128,34 @@ mutual
       ∙ word 108 (codes "lvm.ptr") (32 ∷ 40 ∷ decimal n ++ (41 ∷ bs)) S.Pointer _ refl refl refl open_
   type_said (FloatingType of) fine bs ss ends h = floating of bs ss ends h
   type_said (RefusedType of) fine bs ss ends h = absurd fine
-  type_said (ArrayType n t) fine bs ss ends h = absurd fine
-  type_said (VectorType k n t) fine bs ss ends h = absurd fine
-  type_said (StructType l ts) fine bs ss ends h = absurd fine
+  type_said (ArrayType n t) fine bs ss ends h =
+      let count = counted_said n (type_text t) bs _ (count_small n (shape t) fine.0) (type_said t fine.1 (93 ∷ bs) _ refl (sign 93 bs S.CloseBracket ss refl refl refl h)) in
+      let open_ = sign 91 (count_text n (type_text t) bs) S.OpenBracket _ refl refl refl count in
+      ap symbols_of (counted_regroup (codes "llvm.array [") (decimal n) (type_text t) bs)
+      ∙ word 108 (codes "lvm.array") (32 ∷ 91 ∷ count_text n (type_text t) bs) S.Array _ refl refl refl open_
+  type_said (VectorType V.Fixed n t) fine bs ss ends h =
+      let count = counted_said n (type_text t) bs _ (lanes_small n (shape t) fine.0) (type_said t fine.1 (93 ∷ bs) _ refl (sign 93 bs S.CloseBracket ss refl refl refl h)) in
+      let open_ = sign 91 (count_text n (type_text t) bs) S.OpenBracket _ refl refl refl count in
+      ap symbols_of (counted_regroup (codes "llvm.vector [") (decimal n) (type_text t) bs)
+      ∙ word 108 (codes "lvm.vector") (32 ∷ 91 ∷ count_text n (type_text t) bs) S.Vector _ refl refl refl open_
+  type_said (VectorType V.Scalable n t) fine bs ss ends h =
+      let count = counted_said n (type_text t) bs _ (lanes_small n (shape t) fine.0) (type_said t fine.1 (93 ∷ bs) _ refl (sign 93 bs S.CloseBracket ss refl refl refl h)) in
+      let scale = word 118 (codes "scale") (32 ∷ count_text n (type_text t) bs) S.Vscale _ refl refl refl count in
+      let open_ = sign 91 (codes "vscale " ++ count_text n (type_text t) bs) S.OpenBracket _ refl refl refl scale in
+      ap symbols_of (counted_regroup (codes "llvm.vector [vscale ") (decimal n) (type_text t) bs)
+      ∙ word 108 (codes "lvm.vector") (codes " [vscale " ++ count_text n (type_text t) bs) S.Vector _ refl refl refl open_
+  type_said (StructType L.Unpacked ts) fine bs ss ends h =
+      let fields = sign 123 (joined (type_texts ts) ++ (codes "}>" ++ bs)) S.OpenBrace _ refl refl refl (params_said ts fine.1 (codes "}>" ++ bs) _ refl (fields_end bs ss h)) in
+      let less = sign 60 (fields_text ts bs) S.Less _ refl refl refl fields in
+      ap symbols_of (struct_regroup (codes "llvm.struct <{") (joined (type_texts ts)) bs)
+      ∙ word 108 (codes "lvm.struct") (32 ∷ 60 ∷ fields_text ts bs) S.Struct _ refl refl refl less
+  type_said (StructType L.Packed ts) fine bs ss ends h =
+      let fields = sign 123 (joined (type_texts ts) ++ (codes "}>" ++ bs)) S.OpenBrace _ refl refl refl (params_said ts fine.1 (codes "}>" ++ bs) _ refl (fields_end bs ss h)) in
+      let packed = word 112 (codes "acked") (32 ∷ fields_text ts bs) S.Packed _ refl refl refl fields in
+      let less = sign 60 (codes "packed " ++ fields_text ts bs) S.Less _ refl refl refl packed in
+      ap symbols_of (struct_regroup (codes "llvm.struct <packed {") (joined (type_texts ts)) bs)
+      ∙ word 108 (codes "lvm.struct") (codes " <packed " ++ fields_text ts bs) S.Struct _ refl refl refl less
+  type_said (NamedType name) fine bs ss ends h = absurd fine
   type_said (FunctionType r ps v) fine bs ss ends h =
       let end = codes ") variadic = " ++ (truth_text v ++ (codes ">" ++ bs)) in
       let params = params_said ps fine.1 end _ refl (func_end v bs ss h) in

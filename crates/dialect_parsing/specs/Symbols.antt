@@ -6,13 +6,15 @@ use Rattle.std.specs.Str.{bytes_eq}
 use Rattle.kinds.specs.Names.{is_digit}
 use Rattle.kinds.specs.declared.types.Floating.TheVariants as F
 use Rattle.dialect_parsing.specs.declared.symbol.Symbol.{Symbol}
-use Rattle.dialect_parsing.specs.declared.symbol.Symbol.TheVariants.{Void, Integer, Pointer, Func, Floating, Variadic, Truth, OpenParen, CloseParen, Less, Greater, Comma, Equals, Number, Bits}
+use Rattle.dialect_parsing.specs.declared.symbol.Symbol.TheVariants.{Void, Integer, Pointer, Func, Array, Vector, Struct, Floating, Variadic, Truth, Vscale, Times, Packed, OpenParen, CloseParen, OpenBracket, CloseBracket, OpenBrace, CloseBrace, Less, Greater, Comma, Equals, Number, Bits}
 use Rattle.dialect_parsing.specs.Numbers.{number_of}
 use Rattle.dialect_parsing.specs.Tokens.{Text, tokens_of}
 
 -- the words that types begin with, a row for each
 abbrev pub head_rows : List (Text × Symbol)
-head_rows = (codes "llvm.void", Void) ∷ (codes "builtin.integer", Integer) ∷ (codes "llvm.ptr", Pointer) ∷ (codes "llvm.func", Func) ∷ []
+head_rows =
+    (codes "llvm.void", Void) ∷ (codes "builtin.integer", Integer) ∷ (codes "llvm.ptr", Pointer) ∷ (codes "llvm.func", Func) ∷ (codes "llvm.array", Array) ∷ (codes "llvm.vector", Vector)
+    ∷ (codes "llvm.struct", Struct) ∷ []
 
 abbrev pub floating_rows : List (Text × Symbol)
 floating_rows =
@@ -20,10 +22,11 @@ floating_rows =
 
 -- the words inside types
 abbrev pub inner_rows : List (Text × Symbol)
-inner_rows = (codes "variadic", Variadic) ∷ (codes "true", Truth true) ∷ (codes "false", Truth false) ∷ []
+inner_rows = (codes "variadic", Variadic) ∷ (codes "true", Truth true) ∷ (codes "false", Truth false) ∷ (codes "vscale", Vscale) ∷ (codes "x", Times) ∷ (codes "packed", Packed) ∷ []
 
 abbrev pub sign_rows : List (Text × Symbol)
-sign_rows = (codes "(", OpenParen) ∷ (codes ")", CloseParen) ∷ (codes "<", Less) ∷ (codes ">", Greater) ∷ (codes ",", Comma) ∷ (codes "=", Equals) ∷ []
+sign_rows =
+    (codes "(", OpenParen) ∷ (codes ")", CloseParen) ∷ (codes "[", OpenBracket) ∷ (codes "]", CloseBracket) ∷ (codes "{", OpenBrace) ∷ (codes "}", CloseBrace) ∷ (codes "<", Less) ∷ (codes ">", Greater) ∷ (codes ",", Comma) ∷ (codes "=", Equals) ∷ []
 
 -- what a word or a sign of types says
 abbrev pub word_of : Text → Option Symbol

@@ -1,211 +1,185 @@
-//! A type from what its tokens say, with the types that are open.
+//! A type from what its tokens say.
 
-ghost use Rattle.std.specs.Prelude.{[], ◌≡◌, ◌<◌, ◌+◌, ◌∷◌, ℕ, Bool, List, Option, Some, None, Err, true, false, length, IfOk, IfErr};
-ghost use Rattle.kinds.specs.Types.{depth};
-ghost use Rattle.dialect_types.specs.Trees.{TypeTree, type_at, type_tree, type_trees, HasPartsBelow};
-ghost use Rattle.dialect_parsing.specs.Reading.{OpenTree, InResult, IsGiven, IsGoing, closed_tree, is_space, is_width, open_tree, open_trees, read, IsWritable};
-ghost use Rattle.dialect_parsing.specs.Spelling.{Grows, IsOfDialect};
-ghost use Rattle.dialect_parsing.specs.declared.opened.Open.TheVariants as O;
+ghost use Rattle.std.specs.Prelude.{[], ◌≡◌, ◌<◌, ◌≤◌, ◌+◌, ◌∷◌, Err, true, length, IfOk, IfErr};
+ghost use Rattle.dialect_types.specs.Trees.{TypeTree, type_at, types_at, type_trees, AllBelow};
+ghost use Rattle.dialect_parsing.specs.Reading.{closes, IsRead, IsNoType, AreRead, AreNoTypes, IsCounted, IsNotCounted};
+ghost use Rattle.dialect_parsing.specs.Spelling.{Grows};
 ghost use Rattle.dialect_parsing.specs.declared.parse_err.Refused.TheVariants.{Syntax};
-ghost use Rattle.dialect_parsing.specs.declared.symbol.Symbol.{Symbol};
 ghost use Rattle.dialect_parsing.specs.declared.symbol.Symbol.TheVariants as S;
 
-use crate::opened::{Open, OpenTypes};
+use crate::heads::{count, expect, func_end, plain, struct_head, vector_head};
+use crate::making::{Counted, made, make_array, make_func, make_struct, make_vector};
 use crate::parse_err::Refused;
 use crate::symbol::Symbol;
 use crate::symbols::SymbolReader;
 use dialect_types::type_store::TypeStore;
-use dialect_types::types::{TypeHandle, TypeKind};
+use dialect_types::types::TypeHandle;
 use std::alloc::Global;
 use support::items::Items;
 
-/// How many types may be open above a type.
-const MOST_OPEN: usize = 999;
+/// So deep a type may nest.
+const DEEPEST: u32 = 1_000;
 
-/// The greatest width of an integer type.
-const MAX_WIDTH: u64 = 8_388_608;
-
-/// The greatest number of an address space.
-const MAX_SPACE: u64 = 16_777_215;
-
-/// Reads a symbol, which is to be this one.
-fn expect(symbols: &mut SymbolReader, symbol: Symbol) -> Result<(), Refused>
-    ensures ok { IfOk result (λ _. symbols.old ≡ symbol ∷ symbols.new) }
-    ensures err { IfErr result (λ _. (ss : List Symbol) → symbols.old ≡ symbol ∷ ss → ⊥) }
-{
-    match symbols.next() {
-        Some(next) if next == symbol => Ok(()),
-        _ => Err(Refused::Syntax),
-    }
-}
-
-/// Reads the width of an integer type.
-fn width(symbols: &mut SymbolReader) -> Result<u32, Refused>
-    ensures ok { IfOk result (λ w. (symbols.old ≡ S.Bits w ∷ symbols.new) × (is_width w ≡ true)) }
-    ensures err { IfErr result (λ _. (w : ℕ) (ss : List Symbol) → symbols.old ≡ S.Bits w ∷ ss → is_width w ≡ false) }
-{
-    match symbols.next() {
-        Some(Symbol::Bits(width)) if 1 <= width && width <= MAX_WIDTH => Ok(width as u32),
-        _ => Err(Refused::Syntax),
-    }
-}
-
-/// Reads the number of an address space.
-fn number(symbols: &mut SymbolReader) -> Result<u32, Refused>
-    ensures ok { IfOk result (λ n. (symbols.old ≡ S.Number n ∷ symbols.new) × (is_space n ≡ true)) }
-    ensures err { IfErr result (λ _. (n : ℕ) (ss : List Symbol) → symbols.old ≡ S.Number n ∷ ss → is_space n ≡ false) }
-{
-    match symbols.next() {
-        Some(Symbol::Number(space)) if space <= MAX_SPACE => Ok(space as u32),
-        _ => Err(Refused::Syntax),
-    }
-}
-
-/// Reads the address space of a pointer type.
-fn space(symbols: &mut SymbolReader) -> Result<u32, Refused>
-    ensures ok { IfOk result (λ n. (symbols.old ≡ S.OpenParen ∷ S.Number n ∷ S.CloseParen ∷ symbols.new) × (is_space n ≡ true)) }
-    ensures err { IfErr result (λ _. (n : ℕ) (ss : List Symbol) → symbols.old ≡ S.OpenParen ∷ S.Number n ∷ S.CloseParen ∷ ss → is_space n ≡ false) }
-{
-    expect(symbols, Symbol::OpenParen)?;
-    let space = number(symbols)?;
-    expect(symbols, Symbol::CloseParen)?;
-    Ok(space)
-}
-
-/// Reads a truth value.
-fn truth(symbols: &mut SymbolReader) -> Result<bool, Refused>
-    ensures ok { IfOk result (λ v. symbols.old ≡ S.Truth v ∷ symbols.new) }
-    ensures err { IfErr result (λ _. (v : Bool) (ss : List Symbol) → symbols.old ≡ S.Truth v ∷ ss → ⊥) }
-{
-    match symbols.next() {
-        Some(Symbol::Truth(truth)) => Ok(truth),
-        _ => Err(Refused::Syntax),
-    }
-}
-
-/// Reads what stands behind the parameters of a function type, and says whether it is variadic.
-fn func_end(symbols: &mut SymbolReader) -> Result<bool, Refused>
-    ensures ok { IfOk result (λ v. symbols.old ≡ S.Variadic ∷ S.Equals ∷ S.Truth v ∷ S.Greater ∷ symbols.new) }
-    ensures err { IfErr result (λ _. (v : Bool) (ss : List Symbol) → symbols.old ≡ S.Variadic ∷ S.Equals ∷ S.Truth v ∷ S.Greater ∷ ss → ⊥) }
-{
-    expect(symbols, Symbol::Variadic)?;
-    expect(symbols, Symbol::Equals)?;
-    let variadic = truth(symbols)?;
-    expect(symbols, Symbol::Greater)?;
-    Ok(variadic)
-}
-
-/// Reads a type without parts, of which the first symbol was read.
-fn plain(first: Symbol, symbols: &mut SymbolReader) -> Result<TypeKind, Refused>
-    requires { first ≡ S.Func → ⊥ }
-    ensures ok { IfOk result (λ k. (ts : List TypeTree) (os : List OpenTree) → read os None (first ∷ symbols.old) ≡ read os (Some (type_tree ts k)) symbols.new) }
-    ensures err { IfErr result (λ _. (os : List OpenTree) → read os None (first ∷ symbols.old) ≡ None) }
-    ensures kind { IfOk result (λ k. (ts : List TypeTree) (n : ℕ) → HasPartsBelow n k × IsOfDialect (type_tree ts k) × (depth (type_tree ts k) ≡ 1)) }
-    ensures shorter { IfOk result (λ _. length symbols.new < 1 + length symbols.old) }
-{
-    match first {
-        Symbol::Void => Ok(TypeKind::Void),
-        Symbol::Integer => Ok(TypeKind::Integer(width(symbols)?)),
-        Symbol::Pointer => Ok(TypeKind::Pointer(space(symbols)?)),
-        Symbol::Floating(of) => Ok(TypeKind::Floating(of)),
-        _ => Err(Refused::Syntax),
-    }
-}
-
-/// Begins a type: one without parts is read and has closed, another is open.
-fn begin(open: &mut OpenTypes, symbols: &mut SymbolReader) -> Result<Option<TypeKind>, Refused>
-    ensures ok { IfOk result (λ k. (ts : List TypeTree) → read (open_trees ts «open».old) None symbols.old ≡ read (open_trees ts «open».new) (closed_tree ts k) symbols.new) }
-    ensures err { result ≡ Err Syntax → (ts : List TypeTree) → read (open_trees ts «open».old) None symbols.old ≡ None }
-    ensures goes { IfOk result (λ k. (n : ℕ) (ts : List TypeTree) → IsGoing n ts «open».old None → IsGoing n ts «open».new k) }
-    ensures shorter { IfOk result (λ _. length symbols.new < length symbols.old) }
+/// Reads a type that nests at most so deep.
+#[cycle(read_type)]
+fn read_type(
+    alloc: Global,
+    types: &mut TypeStore,
+    symbols: &mut SymbolReader,
+    room: u32,
+) -> Result<TypeHandle, Refused>
+    requires { room ≤ 1000 }
+    ensures within { IfOk result (λ h. h.0 < length types.new) }
+    ensures ok { IfOk result (λ h. IsRead room symbols.old (type_at (type_trees types.new) h) symbols.new) }
+    ensures err { result ≡ Err Syntax → IsNoType room symbols.old }
+    ensures grows { Grows types.old types.new }
 {
     let Some(first) = symbols.next() else {
         return Err(Refused::Syntax);
     };
+    if room == 0 {
+        return Err(Refused::Syntax);
+    }
     match first {
-        Symbol::Func => {
-            expect(symbols, Symbol::Less)?;
-            if open.len() >= MOST_OPEN {
-                return Err(Refused::Syntax);
-            }
-            open.push(Open::Result)?;
-            Ok(None)
+        Symbol::Array => array(alloc, types, symbols, room - 1),
+        Symbol::Vector => vector(alloc, types, symbols, room - 1),
+        Symbol::Struct => structure(alloc, types, symbols, room - 1),
+        Symbol::Func => func(alloc, types, symbols, room - 1),
+        _ => {
+            let kind = plain(first, symbols)?;
+            made(types, kind)
         }
-        _ => Ok(Some(plain(first, symbols)?)),
     }
 }
 
-/// Gives its result to a function type.
-fn behind_result(
+/// Reads how many there are of a type, the type, and the bracket behind it.
+#[cycle(read_type)]
+fn counted(
     alloc: Global,
-    ty: TypeHandle,
-    open: &mut OpenTypes,
+    types: &mut TypeStore,
     symbols: &mut SymbolReader,
-) -> Result<Option<TypeKind>, Refused>
-    ensures ok { IfOk result (λ k. (ts : List TypeTree) → read (InResult ∷ open_trees ts «open».old) (Some (type_at ts ty)) symbols.old ≡ read (open_trees ts «open».new) (closed_tree ts k) symbols.new) }
-    ensures err { result ≡ Err Syntax → (ts : List TypeTree) → read (InResult ∷ open_trees ts «open».old) (Some (type_at ts ty)) symbols.old ≡ None }
-    ensures goes { IfOk result (λ k. (n : ℕ) (ts : List TypeTree) → IsGiven n ts O.Result «open».old ty → IsGoing n ts «open».new k) }
-    ensures shorter { IfOk result (λ _. length symbols.new < length symbols.old) }
+    room: u32,
+) -> Result<Counted, Refused>
+    requires { room < 1000 }
+    ensures within { IfOk result (λ c. c.element.0 < length types.new) }
+    ensures ok { IfOk result (λ c. IsCounted room symbols.old c.count (type_at (type_trees types.new) c.element) symbols.new) }
+    ensures err { result ≡ Err Syntax → IsNotCounted room symbols.old }
+    ensures grows { Grows types.old types.new }
 {
+    let count = count(symbols)?;
+    let element = read_type(alloc, types, symbols, room)?;
+    expect(symbols, Symbol::CloseBracket)?;
+    Ok(Counted { count, element })
+}
+
+/// Reads an array type, of which the first symbol was read.
+#[cycle(read_type)]
+fn array(
+    alloc: Global,
+    types: &mut TypeStore,
+    symbols: &mut SymbolReader,
+    room: u32,
+) -> Result<TypeHandle, Refused>
+    requires { room < 1000 }
+    ensures within { IfOk result (λ h. h.0 < length types.new) }
+    ensures ok { IfOk result (λ h. IsRead (1 + room) (S.Array ∷ symbols.old) (type_at (type_trees types.new) h) symbols.new) }
+    ensures err { result ≡ Err Syntax → IsNoType (1 + room) (S.Array ∷ symbols.old) }
+    ensures grows { Grows types.old types.new }
+{
+    expect(symbols, Symbol::OpenBracket)?;
+    let of = counted(alloc, types, symbols, room)?;
+    make_array(types, of)
+}
+
+/// Reads a vector type, of which the first symbol was read.
+#[cycle(read_type)]
+fn vector(
+    alloc: Global,
+    types: &mut TypeStore,
+    symbols: &mut SymbolReader,
+    room: u32,
+) -> Result<TypeHandle, Refused>
+    requires { room < 1000 }
+    ensures within { IfOk result (λ h. h.0 < length types.new) }
+    ensures ok { IfOk result (λ h. IsRead (1 + room) (S.Vector ∷ symbols.old) (type_at (type_trees types.new) h) symbols.new) }
+    ensures err { result ≡ Err Syntax → IsNoType (1 + room) (S.Vector ∷ symbols.old) }
+    ensures grows { Grows types.old types.new }
+{
+    let kind = vector_head(symbols)?;
+    let of = counted(alloc, types, symbols, room)?;
+    make_vector(types, of, kind)
+}
+
+/// Reads a struct type, of which the first symbol was read.
+#[cycle(read_type)]
+fn structure(
+    alloc: Global,
+    types: &mut TypeStore,
+    symbols: &mut SymbolReader,
+    room: u32,
+) -> Result<TypeHandle, Refused>
+    requires { room < 1000 }
+    ensures within { IfOk result (λ h. h.0 < length types.new) }
+    ensures ok { IfOk result (λ h. IsRead (1 + room) (S.Struct ∷ symbols.old) (type_at (type_trees types.new) h) symbols.new) }
+    ensures err { result ≡ Err Syntax → IsNoType (1 + room) (S.Struct ∷ symbols.old) }
+    ensures grows { Grows types.old types.new }
+{
+    let layout = struct_head(symbols)?;
+    let fields = list(alloc, types, symbols, Symbol::CloseBrace, room)?;
+    expect(symbols, Symbol::Greater)?;
+    make_struct(types, fields, layout)
+}
+
+/// Reads a function type, of which the first symbol was read.
+#[cycle(read_type)]
+fn func(
+    alloc: Global,
+    types: &mut TypeStore,
+    symbols: &mut SymbolReader,
+    room: u32,
+) -> Result<TypeHandle, Refused>
+    requires { room < 1000 }
+    ensures within { IfOk result (λ h. h.0 < length types.new) }
+    ensures ok { IfOk result (λ h. IsRead (1 + room) (S.Func ∷ symbols.old) (type_at (type_trees types.new) h) symbols.new) }
+    ensures err { result ≡ Err Syntax → IsNoType (1 + room) (S.Func ∷ symbols.old) }
+    ensures grows { Grows types.old types.new }
+{
+    expect(symbols, Symbol::Less)?;
+    let returned = read_type(alloc, types, symbols, room)?;
     expect(symbols, Symbol::OpenParen)?;
-    let params = Items::new(alloc);
-    if !symbols.skip(Symbol::CloseParen) {
-        open.push(Open::Params { result: ty, params })?;
-        return Ok(None);
-    }
+    let params = list(alloc, types, symbols, Symbol::CloseParen, room)?;
     let variadic = func_end(symbols)?;
-    Ok(Some(TypeKind::Func {
-        result: ty,
-        params,
-        variadic,
-    }))
+    make_func(types, returned, params, variadic)
 }
 
-/// Gives a parameter to a function type, behind others.
-fn behind_param(
-    returns: TypeHandle,
-    mut params: Items<TypeHandle>,
-    ty: TypeHandle,
-    open: &mut OpenTypes,
-    symbols: &mut SymbolReader,
-) -> Result<Option<TypeKind>, Refused>
-    ensures ok { IfOk result (λ k. (ts : List TypeTree) → read (open_tree ts (O.Params returns params) ∷ open_trees ts «open».old) (Some (type_at ts ty)) symbols.old ≡ read (open_trees ts «open».new) (closed_tree ts k) symbols.new) }
-    ensures err { result ≡ Err Syntax → (ts : List TypeTree) → read (open_tree ts (O.Params returns params) ∷ open_trees ts «open».old) (Some (type_at ts ty)) symbols.old ≡ None }
-    ensures goes { IfOk result (λ k. (n : ℕ) (ts : List TypeTree) → IsGiven n ts (O.Params returns params) «open».old ty → IsGoing n ts «open».new k) }
-    ensures shorter { IfOk result (λ _. length symbols.new < length symbols.old) }
-{
-    params.push(ty)?;
-    if symbols.skip(Symbol::Comma) {
-        let result = returns;
-        open.push(Open::Params { result, params })?;
-        return Ok(None);
-    }
-    expect(symbols, Symbol::CloseParen)?;
-    let variadic = func_end(symbols)?;
-    Ok(Some(TypeKind::Func {
-        result: returns,
-        params,
-        variadic,
-    }))
-}
-
-/// Gives a type that has closed to the one that it is a part of, which may close with it.
-fn behind(
+/// Reads types with commas between them, and the sign that closes them.
+#[cycle(read_type)]
+fn list(
     alloc: Global,
-    inner: Open,
-    ty: TypeHandle,
-    open: &mut OpenTypes,
+    types: &mut TypeStore,
     symbols: &mut SymbolReader,
-) -> Result<Option<TypeKind>, Refused>
-    ensures ok { IfOk result (λ k. (ts : List TypeTree) → read (open_trees ts (inner ∷ «open».old)) (Some (type_at ts ty)) symbols.old ≡ read (open_trees ts «open».new) (closed_tree ts k) symbols.new) }
-    ensures err { result ≡ Err Syntax → (ts : List TypeTree) → read (open_trees ts (inner ∷ «open».old)) (Some (type_at ts ty)) symbols.old ≡ None }
-    ensures goes { IfOk result (λ k. (n : ℕ) (ts : List TypeTree) → IsGiven n ts inner «open».old ty → IsGoing n ts «open».new k) }
-    ensures shorter { IfOk result (λ _. length symbols.new < length symbols.old) }
+    close: Symbol,
+    room: u32,
+) -> Result<Items<TypeHandle>, Refused>
+    requires room { room < 1000 }
+    requires close { closes close ≡ true }
+    ensures within { IfOk result (λ hs. AllBelow (length types.new) hs) }
+    ensures ok { IfOk result (λ hs. AreRead room close symbols.old (types_at (type_trees types.new) hs) symbols.new) }
+    ensures err { result ≡ Err Syntax → AreNoTypes room close symbols.old }
+    ensures grows { Grows types.old types.new }
 {
-    match inner {
-        Open::Result => behind_result(alloc, ty, open, symbols),
-        Open::Params { result, params } => behind_param(result, params, ty, open, symbols),
+    let mut found = Items::new(alloc);
+    if symbols.skip(close) {
+        return Ok(found);
     }
+    let first = read_type(alloc, types, symbols, room)?;
+    found.push(first)?;
+    while !symbols.skip(close) {
+        expect(symbols, Symbol::Comma)?;
+        let next = read_type(alloc, types, symbols, room)?;
+        found.push(next)?;
+    }
+    Ok(found)
 }
 
 /// No symbol is to be left.
@@ -225,22 +199,12 @@ pub fn read(
     types: &mut TypeStore,
     symbols: &mut SymbolReader,
 ) -> Result<TypeHandle, Refused>
-    ensures ok { IfOk result (λ h. (h.0 < length types.new) × (read [] None symbols.old ≡ Some (type_at (type_trees types.new) h)) × IsWritable 0 (type_at (type_trees types.new) h)) }
-    ensures err { result ≡ Err Syntax → read [] None symbols.old ≡ None }
+    ensures within { IfOk result (λ h. h.0 < length types.new) }
+    ensures ok { IfOk result (λ h. IsRead 1000 symbols.old (type_at (type_trees types.new) h) []) }
+    ensures err { result ≡ Err Syntax → (t : TypeTree) → IsRead 1000 symbols.old t [] → ⊥ }
     ensures grows { Grows types.old types.new }
 {
-    let mut open = OpenTypes::new(alloc);
-    let mut closed: Option<TypeKind> = None;
-    loop {
-        let Some(kind) = closed else {
-            closed = begin(&mut open, symbols)?;
-            continue;
-        };
-        let ty = types.get(kind)?;
-        let Some(inner) = open.pop() else {
-            at_end(symbols)?;
-            return Ok(ty);
-        };
-        closed = behind(alloc, inner, ty, &mut open, symbols)?;
-    }
+    let ty = read_type(alloc, types, symbols, DEEPEST)?;
+    at_end(symbols)?;
+    Ok(ty)
 }

@@ -13,16 +13,36 @@ pub enum Symbol {
     Pointer,
     /// `llvm.func`
     Func,
+    /// `llvm.array`
+    Array,
+    /// `llvm.vector`
+    Vector,
+    /// `llvm.struct`
+    Struct,
     /// The word of a floating-point type.
     Floating(Floating),
     /// `variadic`
     Variadic,
     /// `true` or `false`.
     Truth(bool),
+    /// `vscale`
+    Vscale,
+    /// `x`
+    Times,
+    /// `packed`
+    Packed,
     /// `(`
     OpenParen,
     /// `)`
     CloseParen,
+    /// `[`
+    OpenBracket,
+    /// `]`
+    CloseBracket,
+    /// `{`
+    OpenBrace,
+    /// `}`
+    CloseBrace,
     /// `<`
     Less,
     /// `>`

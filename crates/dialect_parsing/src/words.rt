@@ -25,6 +25,15 @@ fn head(text: &[u8]) -> Option<Symbol>
     if text == b"llvm.func".as_slice() {
         return Some(Symbol::Func);
     }
+    if text == b"llvm.array".as_slice() {
+        return Some(Symbol::Array);
+    }
+    if text == b"llvm.vector".as_slice() {
+        return Some(Symbol::Vector);
+    }
+    if text == b"llvm.struct".as_slice() {
+        return Some(Symbol::Struct);
+    }
     None
 }
 
@@ -60,6 +69,15 @@ fn inner(text: &[u8]) -> Option<Symbol>
     if text == b"false".as_slice() {
         return Some(Symbol::Truth(false));
     }
+    if text == b"vscale".as_slice() {
+        return Some(Symbol::Vscale);
+    }
+    if text == b"x".as_slice() {
+        return Some(Symbol::Times);
+    }
+    if text == b"packed".as_slice() {
+        return Some(Symbol::Packed);
+    }
     None
 }
 
@@ -70,6 +88,10 @@ fn sign(text: &[u8]) -> Option<Symbol>
     match text {
         b"(" => Some(Symbol::OpenParen),
         b")" => Some(Symbol::CloseParen),
+        b"[" => Some(Symbol::OpenBracket),
+        b"]" => Some(Symbol::CloseBracket),
+        b"{" => Some(Symbol::OpenBrace),
+        b"}" => Some(Symbol::CloseBrace),
         b"<" => Some(Symbol::Less),
         b">" => Some(Symbol::Greater),
         b"," => Some(Symbol::Comma),

@@ -1,13 +1,13 @@
 -- What was read is spelled, and what is refused spells no type.
 use Rattle.std.proofs.Common.{◌≡◌, Some, Err, length, sym, ap, ◌∙◌}
 use Rattle.dialect_parsing.proofs.StoreLaws.{grown_trees}
-use Rattle.dialect_parsing.proofs.WrittenLaws.{spells, spells_none}
+use Rattle.dialect_parsing.proofs.SpellLaws.{spells, spells_none}
 use Rattle.dialect_parsing.proofs.parsing.parse_type.Goals as goal
 
 pub returns-in-Ok-clause-ok : goal.returns-in-Ok-clause-ok
 returns-in-Ok-clause-ok c =
-    let e = c.in-Ok.ensures.ok in
-    (e.0, spells c.args.bytes.now _ _ (c.in_ok-found.ensures.found ∙ ap Some (sym c.new-reader.ensures)) e.1 e.2)
+    let e = c.in-Ok.ensures in
+    (e.within, spells c.args.bytes.now _ _ (c.in_ok-found.ensures.found ∙ ap Some (sym c.new-reader.ensures)) e.ok)
 
 pub returns-in-Ok-clause-kept : goal.returns-in-Ok-clause-kept
 returns-in-Ok-clause-kept c = grown_trees _ _ c.in-Ok.ensures.grows
