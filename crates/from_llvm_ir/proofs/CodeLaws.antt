@@ -1,20 +1,21 @@
 -- A function that an import made has the code of the one that it stands for.
-use Rattle.std.proofs.Common.{ℕ, zero, suc, ◌≡◌, ◌<◌, ◌≤◌, refl, sym, ◌∙◌, ap, true, List, [], ◌∷◌, Option, Some, unwrap_or, length, slice_get, slice_index_or, arith}
+use Rattle.std.proofs.Common.{ℕ, zero, suc, ◌≡◌, ◌<◌, ◌≤◌, refl, sym, ◌∙◌, ap, subst, true, List, [], ◌∷◌, Option, Some, unwrap_or, length, slice_get, slice_index_or, arith}
 use Rattle.std.proofs.lemmas.Option.{slice_get_within}
 use Rattle.support.proofs.ListLaws.{item_there}
+use Rattle.kinds.specs.Held.{IsHeldSignature}
 use Rattle.llvm_core.specs.Data as L
 use Rattle.llvm_core.specs.Data.{ModuleData}
 use Rattle.llvm_core.specs.Form.{IsFormFunction}
 use Rattle.llvm_core.proofs.DataLemmas.{within_at}
 use Rattle.dialect_types.specs.Legalised.{Named}
 use Rattle.dialect_core.specs.Data as D
-use Rattle.meaning.specs.Terms.{Match}
+use Rattle.meaning.specs.Terms.{Match, rename_type}
 use Rattle.meaning.specs.Code.{FunctionSymbol, External, SameNamed, SameBody, IsOneToOne}
 use Rattle.meaning.specs.Setting.{Setting}
 use Rattle.meaning.specs.Llvm as Llvm
 use Rattle.meaning.specs.Dialect as Dialect
 use Rattle.meaning.proofs.ShapeLaws.{same_shape}
-use Rattle.meaning.proofs.EntryLaws.{some_blocks, not_empty, same_symbol, both}
+use Rattle.meaning.proofs.EntryLaws.{signature_stays, some_blocks, not_empty, same_symbol, both}
 use Rattle.from_llvm_ir.specs.declared.matching.FunctionBlocks.{FunctionBlocks}
 use Rattle.from_llvm_ir.specs.Match.{IsPlaces, place_at}
 use Rattle.from_llvm_ir.specs.Imported.{ImportedFunction, IsImportedBlock}
@@ -83,11 +84,17 @@ module _ (match : Match) (d : ModuleData) (given : List Named) (f : L.Function) 
   linked : FunctionSymbol g.type (Dialect.linkage g.linkage) 0 (Dialect.has_blocks g) ≡ FunctionSymbol g.type External 0 (Dialect.has_blocks g)
   linked = rw h.form.linkage refl
 
+  -- its type is translated, so the match leaves it
+  pub type_kept : rename_type match f.type ≡ f.type
+  type_kept =
+      let made = h.form in
+      signature_stays match f.type (subst IsHeldSignature h.type (record { result = made.result; params = made.types; is = made.type; returns = made.returns; takes = made.takes; shallow = made.shallow }))
+
   pub imported_entry : (source made : Setting) → SameNamed match (Llvm.entry source f) (Dialect.entry made g)
   imported_entry source made = record {
     name = sym (kept_as given d f x g h);
     entry = record {
-      symbol = same_symbol match f.type g.type f.space (Llvm.has_blocks f) (Dialect.has_blocks g) (sym h.type) form.space (has ∙ sym has_dialect) ∙ sym linked;
+      symbol = same_symbol match f.type g.type f.space (Llvm.has_blocks f) (Dialect.has_blocks g) type_kept (sym h.type) form.space (has ∙ sym has_dialect) ∙ sym linked;
       body = both match f.name (Llvm.has_blocks f) (Dialect.has_blocks g) (Llvm.body source f) (Dialect.body made g) has has_dialect (imported_body source made);
     };
   }

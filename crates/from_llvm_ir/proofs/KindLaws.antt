@@ -78,12 +78,13 @@ module _ (m : Module) (sound : IsModule m) (ty : LLVMType) (k : LLVMTypeKind) (a
   pub kind_held : (is_nothing (shape_of k) || is_held (shape_of k)) ≡ true
   kind_held = ap (λ s. is_nothing s || is_held s) (shape_kept trees k) ∙ result_shape (L.type_tree trees k) (tree_held k refl)
 
--- any other has none: a line for each kind that has parts
-pub no_parts : (k : LLVMTypeKind) → ((n : ℕ) (u : LLVMType) → k ≡ T.Array n u → ⊥) → ((v : VectorTypeKind) (n : ℕ) (u : LLVMType) → k ≡ T.Vector v n u → ⊥) → ((us : List LLVMType) (l : StructLayout) → k ≡ T.Literal us l → ⊥) → is_made (shape_of k) ≡ false
-no_parts (T.Array n u) a v s = absurd (a n u refl)
-no_parts (T.Vector w n u) a v s = absurd (v w n u refl)
-no_parts (T.Literal us l) a v s = absurd (s us l refl)
-no_parts k a v s = refl
+-- any other has none: a line for each kind that has parts, here or by its name; one by its name is not translated
+pub no_parts : (k : LLVMTypeKind) → (is_nothing (shape_of k) || is_held (shape_of k)) ≡ true → ((n : ℕ) (u : LLVMType) → k ≡ T.Array n u → ⊥) → ((v : VectorTypeKind) (n : ℕ) (u : LLVMType) → k ≡ T.Vector v n u → ⊥) → ((us : List LLVMType) (l : StructLayout) → k ≡ T.Literal us l → ⊥) → is_made (shape_of k) ≡ false
+no_parts (T.Array n u) h a v s = absurd (a n u refl)
+no_parts (T.Vector w n u) h a v s = absurd (v w n u refl)
+no_parts (T.Literal us l) h a v s = absurd (s us l refl)
+no_parts (T.Named name) h a v s = cc
+no_parts k h a v s = refl
 
 -- ---- the kind that stands for it
 

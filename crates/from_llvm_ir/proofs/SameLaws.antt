@@ -61,4 +61,4 @@ function_numbered m i f at =
 pub same_imported : (m : Module) (c : ContextData) (i : Imported) → IsForm (data_of m) → IsImported (data_of m) c i
     → IsDistinctNames (function_names (data_of m).functions) → SameCode (match_of (data_of m) i.blocks) (Llvm.code_of (data_of m)) (Dialect.code_of (imported_data c i))
 same_imported m c i form h distinct =
-    same_dialect (data_of m) h.given i.blocks (imported_data c i).functions form distinct (function_numbered m) h.functions (imported_data c i) refl
+    same_dialect (data_of m) h.given i.blocks (imported_data c i).functions form.functions distinct (function_numbered m) h.functions (imported_data c i) refl

@@ -10,7 +10,7 @@ use mathlib.Core.Path.{fun_ext}
 use Rattle.std.proofs.lemmas.List.Concat.{flat_map-append}
 use Rattle.std.proofs.lemmas.Option.{same_Some, none-some, slice_get_within, slice_get-map, slice_get_past, get_or_from_slice_get}
 use Rattle.meaning.proofs.MatchedLaws.{matched_length, matched_at, matched_append}
-use Rattle.meaning.proofs.EntryLaws.{type_stays}
+use Rattle.meaning.proofs.EntryLaws.{held_stays, held_result_stays}
 use Rattle.support.proofs.ListLaws.{item_there, slice_get-kept, filter_from}
 use Rattle.llvm_core.specs.Form as LF
 use Rattle.llvm_core.specs.Data as L
@@ -33,7 +33,7 @@ use Rattle.meaning.specs.Dialect.{option_type}
 use Rattle.meaning.specs.Shape.{Plan, SameRow, SameMove, SameEdge, SameBlock, SameBlocks, SameShape, IsFront}
 use Rattle.meaning.specs.Shape as Shape
 use Rattle.from_llvm_ir.specs.Order.{IsInverse}
-use Rattle.kinds.specs.Held.{is_void, own_type}
+use Rattle.kinds.specs.Held.{is_void, own_type, IsHeld, IsHeldResult}
 use Rattle.kinds.proofs.HeldLaws.{void_is}
 use Rattle.from_llvm_ir.specs.Imported.{phis_of, rest_of, front_for, first_entry}
 use Rattle.from_llvm_ir.specs.Source.{IsUsable}
@@ -41,6 +41,7 @@ use Rattle.from_llvm_ir.specs.Known.{Known, Stands, blocks_of, value_of}
 use Rattle.from_llvm_ir.specs.Converted.{IsKind, IsEdge, IsRow, IsConverted}
 use Rattle.from_llvm_ir.proofs.ListLaws.{matched_from, matched_map}
 use Rattle.from_llvm_ir.proofs.PlaceLaws.{flat_same, flat_none}
+use Rattle.from_llvm_ir.proofs.HeldLaws.{operand_held, result_held_at}
 use Rattle.from_llvm_ir.proofs.OrderLaws.{ordered_at, ordered_first, placed, not_first}
 use Rattle.from_llvm_ir.proofs.PassLaws.{takes, phi_is, inst_form, operands_usable}
 use Rattle.from_llvm_ir.proofs.HoistedLaws.{rows_of, is_among, term_of}
@@ -159,12 +160,12 @@ module _ (source made : Setting) (n : Head) (k : Known) (cs : List DialectBlock)
   stands_for (L.Result m) w st = stands_value n k cs h (Llvm.ResultKey m) w st
 
   typed : (t : L.TypeTree) (o : L.Operand) (w : Value) → Stands k o w → LF.IsOperand g t o → rename_type match (operand_type g o) ≡ option_type (value_type G w)
-  typed t o w st f = type_stays match (operand_type g o) ∙ f.typed ∙ sym (ap option_type (operand_typed n k cs h t o w st f))
+  typed t o w st f = held_stays match (operand_type g o) (subst IsHeld (sym f.typed) (operand_held g h.form h.held t o f)) ∙ f.typed ∙ sym (ap option_type (operand_typed n k cs h t o w st f))
 
   -- ---- rows
 
-  result_type : (p : Placed) (o : DialectOp) → o.result ≡ own_type p.type → rename_type match p.type ≡ option_type o.result
-  result_type p o e = type_stays match p.type ∙ by (is_void p.type) refl ∙ sym (ap option_type e)
+  result_type : (p : Placed) (o : DialectOp) → IsHeldResult p.type → o.result ≡ own_type p.type → rename_type match p.type ≡ option_type o.result
+  result_type p o held e = held_result_stays match p.type held ∙ by (is_void p.type) refl ∙ sym (ap option_type e)
     where
       by : (v : Bool) → is_void p.type ≡ v → p.type ≡ option_type (if v then None else Some p.type)
       by true is = void_is p.type is
@@ -199,7 +200,7 @@ module _ (source made : Setting) (n : Head) (k : Known) (cs : List DialectBlock)
         record { action = Llvm.action source g p.type a; result = Llvm.ResultKey p.number },
         refl,
         record {
-          action = subst (Shape.SameAction match the_plan (Llvm.action source g p.type a)) (sym (ap (Dialect.action made G o) is)) (same_action p.type a o f m (result_type p o r.converted.result));
+          action = subst (Shape.SameAction match the_plan (Llvm.action source g p.type a)) (sym (ap (Dialect.action made G o) is)) (same_action p.type a o f m (result_type p o (result_held_at g h.held i b x p at here) r.converted.result));
           result = stands_value n k cs h (Llvm.ResultKey p.number) (value_of o) r.stands;
         },
       )

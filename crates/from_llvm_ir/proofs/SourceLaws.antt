@@ -213,7 +213,7 @@ source_at m k sound form held lt =
     let x = item_there m.functions k lt in
     let at = function_at m k x.0 x.1 in
     let g = function_of (trees_of m) m.blocks m.insts (k, x.0) in
-    (g, record { sound = sound; apart = apart m sound; at = at; form = within_at (data_of m).functions IsFormFunction form k g at; held = within_at (data_of m).functions IsHeldFunction held k g at })
+    (g, record { sound = sound; apart = apart m sound; at = at; form = within_at (data_of m).functions IsFormFunction form.functions k g at; held = within_at (data_of m).functions IsHeldFunction held k g at })
 
 -- the instruction at an index of the list of a block
 pub listed_at : (m : Module) (g : Function) (n : LLVMBasicBlock) (place : ℕ) (b : Block) (is : List LLVMInstRef) (k : ℕ) (d : LLVMInstRef) → IsModule m → IsBlockOf m g n place b → option_map (λ (x : BlockData). x.insts) (slice_get m.blocks n.0) ≡ Some is → k < length is → (p : Placed) × IsInstOf m b (get_or is k d) k p

@@ -1,6 +1,8 @@
 -- Why an import refuses a function, and a module.
 use Rattle.std.specs.Prelude.{ℕ, ◌≡◌, List, Some, All, slice_get}
-use Rattle.kinds.specs.Types.{TypeTree, RefusedType}
+use Rattle.kinds.specs.declared.types.Lack.{Lack}
+use Rattle.kinds.specs.declared.types.Lack.TheVariants as K
+use Rattle.kinds.specs.Types.{TypeTree, RefusedType, NamedType}
 use Rattle.kinds.specs.Held.{Holds}
 use Rattle.llvm_core.specs.Data as L
 use Rattle.llvm_core.specs.Form.{value_types}
@@ -44,9 +46,19 @@ pub record HasTypeWith (d : L.ModuleData) (u : TypeTree) : Type 0 where
   pub here : slice_get (value_types f) index ≡ Some type
   pub holds : Holds u type
 
--- the module has what the dialect has nothing for
+-- the module has what is not translated: a type for which the dialect has none, or a struct with a name
 abbrev pub IsUnsupported : L.ModuleData → Unsupported → Type 0
 IsUnsupported d (U.Ty of) = HasTypeWith d (RefusedType of)
+IsUnsupported d U.Struct = (name : List ℕ) × HasTypeWith d (NamedType name)
+
+-- the refusal for types of that sort
+abbrev pub unsupported : Lack → Unsupported
+unsupported (K.Other of) = U.Ty of
+unsupported K.Struct = U.Struct
+
+-- a value of a function of the module has a type that is, or holds, one of that sort
+abbrev pub HasLack : L.ModuleData → Lack → Type 0
+HasLack d lack = IsUnsupported d (unsupported lack)
 
 -- why an import refuses a module whose data are d; want of memory needs no reason
 abbrev pub IsCause : L.ModuleData → ConversionErr → Type 0

@@ -10,11 +10,13 @@ use std::fmt;
 use support::text::Text;
 use thiserror::Error;
 
-/// What the dialect has nothing for.
+/// What is not translated.
 #[derive(Clone, Copy, PartialEq, Eq, Debug, Drop)]
 pub enum Unsupported {
-    /// A type that the type of a value of a function is, or holds.
+    /// A type for which the dialect has none, which the type of a value of a function is, or holds.
     Ty(OtherType),
+    /// A struct with a name, which the type of a value of a function is, or holds; not translated yet.
+    Struct,
 }
 
 /// Why an import refuses a module.
@@ -25,7 +27,7 @@ pub enum ConversionErr {
     /// in another block; or they share a block, and the definition is not ahead of the use.
     #[error("UndefinedValue")]
     UndefinedValue(Text, LLVMValue),
-    /// A part of the module for which the dialect has nothing.
+    /// A part of the module that is not translated.
     #[error("Unsupported")]
     Unsupported(Unsupported),
     /// Memory is wanting.

@@ -180,8 +180,9 @@ fn make_room(ctx: &mut Context, source: &LLVMModule)
 /// The context may be any. All that it held stays, whatever is answered: its types, its operations and where they stand,
 /// its blocks and what they list. Where its numbers of types are there, they stay there, and each of its modules has the
 /// data that it had. After a refusal the context may hold more operations, blocks and types.
-/// Refuses a module that has values whose type is, or holds, one for which the dialect has none, `Unsupported`, and leaves
-/// the context as it was; and a function that uses the result of an instruction where it is not defined: `UndefinedValue`.
+/// Refuses a module that has values whose type is, or holds, one for which the dialect has none, or a struct with a name,
+/// `Unsupported`, and leaves the context as it was; and a function that uses the result of an instruction where it is not
+/// defined: `UndefinedValue`. Structs with a name that no value's type holds are left out.
 pub fn convert_module(
     alloc: Global,
     ctx: &mut Context,

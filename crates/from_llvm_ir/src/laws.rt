@@ -12,7 +12,7 @@ pub fn valid_law()
     ensures { (d : ModuleData) → IsValid d → (name : List ℕ) → (v : LLVMValue) → ¬ HasUndefinedUse d name v }
 {}
 
-/// A module whose types are held has nothing for which the dialect has nothing.
+/// A module whose types are held has nothing that is not translated.
 pub fn held_law()
     ensures { (d : ModuleData) → AreHeld d → (u : Unsupported) → ¬ IsUnsupported d u }
 {}

@@ -74,6 +74,7 @@ fn plain_kind(kind: &LLVMTypeKind) -> TypeKind
         LLVMTypeKind::Array(_, _) => unreachable!(),
         LLVMTypeKind::Vector(_, _, _) => unreachable!(),
         LLVMTypeKind::Literal { .. } => unreachable!(),
+        LLVMTypeKind::Named(_) => unreachable!(),
         LLVMTypeKind::Function { .. } => unreachable!(),
     }
 }

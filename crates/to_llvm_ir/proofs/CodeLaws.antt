@@ -16,7 +16,7 @@ use Rattle.meaning.specs.Llvm as Llvm
 use Rattle.meaning.specs.Dialect as Dialect
 use Rattle.meaning.proofs.WovenLaws.{woven, woven_first}
 use Rattle.meaning.proofs.CodeLaws.{same_code}
-use Rattle.meaning.proofs.EntryLaws.{HasOwnName, some_blocks, not_empty, same_symbol, both, all_kept, distinct_code}
+use Rattle.meaning.proofs.EntryLaws.{HasOwnName, type_stays, some_blocks, not_empty, same_symbol, both, all_kept, distinct_code}
 use Rattle.to_llvm_ir.specs.Exported.{ExportedFunction, HasTraces, HasNames}
 use Rattle.to_llvm_ir.proofs.NameLaws.{no_intrinsic}
 
@@ -62,7 +62,7 @@ module _ (c : ContextData) (g : D.Func) (f : L.Function) (form : IsOpenForm c g)
   linked = rw form.1.linkage refl
 
   exported_symbol : (a b : Setting) → rename_symbol same_places (Llvm.entry a f).symbol ≡ (Dialect.entry b g).symbol
-  exported_symbol a b = same_symbol same_places f.type g.type f.space (Llvm.has_blocks f) (Dialect.has_blocks g) h.type h.space (has ∙ sym has_dialect) ∙ sym linked
+  exported_symbol a b = same_symbol same_places f.type g.type f.space (Llvm.has_blocks f) (Dialect.has_blocks g) (type_stays f.type) h.type h.space (has ∙ sym has_dialect) ∙ sym linked
 
   exported_entry : (a b : Setting) → HasOnlyEntryConstants g → SameNamed same_places (Llvm.entry a f) (Dialect.entry b g)
   exported_entry a b only = record {

@@ -169,12 +169,13 @@ pub forms_held : (c : ContextData) (m : ℕ) (ops : List OpRef) → All (IsOpenF
 forms_held c m ops all are = subst (λ (os : List OpRef). All (IsOpenForm c) (functions_in c os)) (sym are) all
 
 -- what each function was made of, it stands for, in the module that was made
-pub all_exported : (c : ContextData) (m : ℕ) (ops : List OpRef) (given : List ℕ) (empty : ModuleData) (back : Module) → ops ≡ held c m → empty ≡ record { name = given; functions = [] } → given ≡ (D.data_of c m).name → AddsFunctions (functions_in c ops) empty (L.data_of back) → IsExported (D.data_of c m) back
+pub all_exported : (c : ContextData) (m : ℕ) (ops : List OpRef) (given : List ℕ) (empty : ModuleData) (back : Module) → ops ≡ held c m → empty ≡ record { name = given; structs = []; functions = [] } → given ≡ (D.data_of c m).name → AddsFunctions (functions_in c ops) empty (L.data_of back) → IsExported (D.data_of c m) back
 all_exported c m ops given empty back are is same adds =
-    let whole : L.data_of back ≡ record { name = given; functions = adds.functions } = adds.is ∙ ap (with_more adds.functions) is in
+    let whole : L.data_of back ≡ record { name = given; structs = []; functions = adds.functions } = adds.is ∙ ap (with_more adds.functions) is in
     let none : length empty.functions < 2 ^ 31 = rw is (omega arith) in
     record {
       name = ap (λ (d : ModuleData). d.name) whole ∙ same;
+      structs = ap (λ (d : ModuleData). d.structs) whole;
       functions = all_stand (D.data_of c m).functions (L.data_of back).functions
           (subst (λ (os : List OpRef). Matched IsMadeOf (functions_in c os) (L.data_of back).functions) are
           (subst (Matched IsMadeOf (functions_in c ops)) (sym (ap (λ (d : ModuleData). d.functions) whole)) adds.made));

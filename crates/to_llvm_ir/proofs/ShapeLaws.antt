@@ -57,7 +57,7 @@ module _ (back setting : Setting) (g : Func) (form : IsFormFunc g) (n : Numbers)
   Alike = S.StandsFor same_places (plan setting g form n order)
 
   typed_alike : (v : Value) (t : TypeTree) → value_type g v ≡ Some t → rename_type same_places (operand_type made (operand_for g n v)) ≡ option_type (value_type g v)
-  typed_alike v t e = type_stays same_places (operand_type made (operand_for g n v)) ∙ operand_typed g form n order (entries g n) v t e ∙ ap option_type (sym e)
+  typed_alike v t e = type_stays (operand_type made (operand_for g n v)) ∙ operand_typed g form n order (entries g n) v t e ∙ ap option_type (sym e)
 
   -- ---- rows
 
@@ -82,7 +82,7 @@ module _ (back setting : Setting) (g : Func) (form : IsFormFunc g) (n : Numbers)
   actions : (k : ℕ) (o : DialectOp) (kind : Kind) → is_constant_kind kind ≡ false → All (IsHeldValue g) o.operands
       → (a : Action Key) × (llvm.row back made (inst g n k o) (instruction_for g n kind o.result o.operands o.successors) ≡ Some (record { action = a; result = ResultKey (inst g n k o).number })) × SameAction same_places (plan setting g form n order) a (dialect.action setting g o kind)
   actions k o (ConstantOp value) other h = absurd (let e : true ≡ false = other in cc)
-  actions k o (RowOp op) other h = (_, refl, (refl, type_stays same_places (option_type o.result), types_alike o.operands h, values_stand o.operands h))
+  actions k o (RowOp op) other h = (_, refl, (refl, type_stays (option_type o.result), types_alike o.operands h, values_stand o.operands h))
 
   row_pair : (j i k : ℕ) (c : DialectBlock) (o : DialectOp) → slice_get g.blocks j ≡ Some c → slice_get c.ops i ≡ Some o → is_constant o ≡ false → IsPaired k o
   row_pair j i k c o at at' other =

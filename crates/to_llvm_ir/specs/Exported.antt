@@ -174,9 +174,10 @@ pub record HasTraces (a b : Setting) (g : Func) (f : L.Function) : Type 0 where
   pub first : HasOnlyEntryConstants g → (choices : List ℕ) → SameTrace same_places a f b g choices
   pub set : (choices : List ℕ) → func_reads_unset b g choices ≡ false → SameTrace same_places a f b g choices
 
--- the module back has a function for each of the dialect's, in order, and its name
+-- the module back has a function for each of the dialect's, in order, and its name, and no struct with a name
 pub record IsExported (d : DialectModule) (back : Module) : Type 0 where
   pub name : (data_of back).name ≡ d.name
+  pub structs : (data_of back).structs ≡ []
   pub functions : Matched ExportedFunction d.functions (data_of back).functions
   pub few : length (data_of back).functions < 2 ^ 31
 

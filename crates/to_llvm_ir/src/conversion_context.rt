@@ -30,7 +30,7 @@ pub struct ConversionContext {
 impl ConversionContext {
     /// An empty module of that name, and no function at hand.
     pub fn new(alloc: Global, name: &str) -> Result<ConversionContext, AllocError>
-        ensures module_data { IfOk result (λ c. data_of c.module ≡ record { name = name.now; functions = [] }) }
+        ensures module_data { IfOk result (λ c. data_of c.module ≡ record { name = name.now; structs = []; functions = [] }) }
         ensures no_blocks { IfOk result (λ c. (b : _) → found_block c.blocks b ≡ None) }
         ensures no_values { IfOk result (λ c. (v : _) → found c.values v ≡ None) }
         ensures next { IfOk result (λ c. c.values.next ≡ 0) }

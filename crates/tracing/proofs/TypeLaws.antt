@@ -8,7 +8,7 @@ use Rattle.support.proofs.ListLaws.{slice_get-push_cases, item_there}
 use Rattle.llvm_core.specs.declared.numbers.LLVMType.{LLVMType}
 use Rattle.llvm_core.specs.declared.types.LLVMTypeKind.{LLVMTypeKind}
 use Rattle.llvm_core.specs.Module.{Module}
-use Rattle.llvm_core.specs.Sound.{IsModule}
+use Rattle.llvm_core.specs.Sound.{IsStructIn, IsModule}
 use Rattle.llvm_core.specs.declared.types.LLVMTypeKind.TheVariants as T
 use Rattle.kinds.specs.declared.fitting.Shape.TheVariants as S
 use Rattle.kinds.specs.Types.{shape, types_list}
@@ -29,7 +29,7 @@ numbered n = record { 0 = n }
 
 -- the module that has these types and nothing else
 abbrev only : List LLVMTypeKind → Module
-only ks = record { name = []; types = ks; consts = []; functions = []; blocks = []; insts = [] }
+only ks = record { name = []; types = ks; consts = []; structs = []; functions = []; blocks = []; insts = [] }
 
 -- what rules look at in a type of a table is that of its tree
 shape_in : (ks : List LLVMTypeKind) → AreOver ks → (t : LLVMType) → t.0 < length ks → shape_at ks t ≡ shape (type_at (type_trees ks) t)
@@ -58,6 +58,7 @@ fit_by_tree ks over n le (T.Int width) below h = tt
 fit_by_tree ks over n le (T.Ptr space) below h = tt
 fit_by_tree ks over n le (T.Floating of) below h = tt
 fit_by_tree ks over n le (T.Other of) below h = tt
+fit_by_tree ks over n le (T.Named name) below h = tt
 fit_by_tree ks over n le (T.Function r ps v) below h = tt
 
 fields_to_tree : (m : Module) → IsModule m → (n : ℕ) → n ≤ length m.types → (ts : List LLVMType) → All (λ (t : LLVMType). t.0 < n) ts → All (λ (t : LLVMType). is_field (shape_at m.types t) ≡ true) ts
@@ -79,6 +80,7 @@ fit_to_tree m s n le (T.Int width) below h = tt
 fit_to_tree m s n le (T.Ptr space) below h = tt
 fit_to_tree m s n le (T.Floating of) below h = tt
 fit_to_tree m s n le (T.Other of) below h = tt
+fit_to_tree m s n le (T.Named name) below h = tt
 fit_to_tree m s n le (T.Function r ps v) below h = tt
 
 only_sound : (ks : List LLVMTypeKind) → IsTypeTable ks → IsDistinctList ks → IsModule (only ks)
@@ -88,6 +90,7 @@ only_sound ks table once = record {
   types_once = once;
   consts = λ i x at. absurd (none-some x at);
   consts_once = λ i j x at at'. absurd (none-some x at);
+  structs = All-nil (IsStructIn ks);
   functions = λ i x at. absurd (none-some x at);
   blocks = λ i x at. absurd (none-some x at);
   insts = λ i x at. absurd (none-some x at);

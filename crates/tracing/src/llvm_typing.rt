@@ -13,6 +13,7 @@ use llvm_core::numbers::LLVMType;
 use llvm_core::types::LLVMTypeKind;
 use std::alloc::{AllocError, Global};
 use support::items::Items;
+use support::text::Text;
 
 /// The place of a type, where it and its parts get one if they have none yet.
 #[cycle(place)]
@@ -59,6 +60,10 @@ fn placed_kind(
         LLVMTypeKind::Ptr(space) => Ok(LLVMTypeKind::Ptr(*space)),
         LLVMTypeKind::Floating(of) => Ok(LLVMTypeKind::Floating(*of)),
         LLVMTypeKind::Other(of) => Ok(LLVMTypeKind::Other(*of)),
+        LLVMTypeKind::Named(name) => {
+            let name = Text::copy(alloc, name.as_str())?;
+            Ok(LLVMTypeKind::Named(name))
+        }
         LLVMTypeKind::Array(count, element) => {
             let element = place(alloc, types, m, *element)?;
             Ok(LLVMTypeKind::Array(*count, element))

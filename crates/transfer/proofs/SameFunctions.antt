@@ -17,7 +17,7 @@ use Rattle.meaning.proofs.EntryLaws.{some_blocks, same_symbol, both}
 use Rattle.from_llvm_ir.specs.declared.matching.FunctionBlocks.{FunctionBlocks}
 use Rattle.from_llvm_ir.specs.Match.{place_at}
 use Rattle.from_llvm_ir.specs.Imported.{ImportedFunction}
-use Rattle.from_llvm_ir.proofs.CodeLaws.{same_blocks, one_to_one, kept_as, has, imported_body}
+use Rattle.from_llvm_ir.proofs.CodeLaws.{same_blocks, one_to_one, kept_as, has, type_kept, imported_body}
 use Rattle.to_llvm_ir.specs.Exported.{ExportedFunction}
 use Rattle.to_llvm_ir.proofs.CodeLaws.{named_count}
 
@@ -49,7 +49,7 @@ module _ (match : Match) (d : ModuleData) (given : List Named) (f : L.Function) 
       name = sym (kept_as given d f x g h) ∙ sym k.name;
       entry = record {
         symbol =
-            same_symbol match f.type f'.type f.space (Llvm.has_blocks f) (Llvm.has_blocks f') (sym h.type ∙ sym k.type) form.space (has match d given f x g here form h ∙ sym has_back)
+            same_symbol match f.type f'.type f.space (Llvm.has_blocks f) (Llvm.has_blocks f') (type_kept match d given f x g here form h) (sym h.type ∙ sym k.type) form.space (has match d given f x g here form h ∙ sym has_back)
             ∙ ap (λ (s : ℕ). FunctionSymbol f'.type External s (Llvm.has_blocks f')) (sym form_back.space);
         body = both match f.name (Llvm.has_blocks f) (Llvm.has_blocks f') (Llvm.body source f) (Llvm.body back f') (has match d given f x g here form h) has_back body_back;
       };

@@ -99,9 +99,9 @@ module _ (m back : Module) (c : ContextData) (i : Imported) (form : IsForm (data
       let source = Llvm.setting_of (data_of m) in
       let returned = Llvm.setting_of (data_of back) in
       let pairs = matched_map (SameNamed match) (Llvm.entry source) (Llvm.entry returned) (data_of m).functions (data_of back).functions
-      (entries_back (data_of m) imported.given i.blocks (imported_data c i).functions form distinct.functions (function_numbered m) imported.functions (data_of back) exported.functions source (Dialect.setting_of (imported_data c i)) returned) in
-      same_code match (Llvm.code_of (data_of m)) (Llvm.code_of (data_of back)) (distinct_code (data_of m) (own_names (data_of m).functions form) distinct.functions)
-      (rw (all_kept (data_of m).functions (own_names (data_of m).functions form), all_kept (data_of back).functions (own_names (data_of back).functions form_of_back)) pairs)
+      (entries_back (data_of m) imported.given i.blocks (imported_data c i).functions form.functions distinct.functions (function_numbered m) imported.functions (data_of back) exported.functions source (Dialect.setting_of (imported_data c i)) returned) in
+      same_code match (Llvm.code_of (data_of m)) (Llvm.code_of (data_of back)) (distinct_code (data_of m) (own_names (data_of m).functions form.functions) distinct.functions)
+      (rw (all_kept (data_of m).functions (own_names (data_of m).functions form.functions), all_kept (data_of back).functions (own_names (data_of back).functions form_of_back.functions)) pairs)
 
   pub same_throughout : SameThroughout (data_of m) (transferred_of c i back)
   same_throughout = record {
@@ -112,6 +112,7 @@ module _ (m back : Module) (c : ContextData) (i : Imported) (form : IsForm (data
     back = same_back;
     name = imported.name;
     back_name = exported.name;
+    back_structs = exported.structs;
     functions = names_imported (data_of m) imported.given (data_of m).functions i.blocks (imported_data c i).functions imported.functions;
     back_functions = names_back;
     imported = imported.functions;

@@ -1,5 +1,5 @@
 -- What a module, its dialect module and its module back have in common, and why a module is refused.
-use Rattle.std.specs.Prelude.{◌≡◌, List, map}
+use Rattle.std.specs.Prelude.{◌≡◌, List, [], map}
 use Rattle.llvm_core.specs.Module.{Module}
 use Rattle.llvm_core.specs.Data as L
 use Rattle.llvm_core.specs.Data.{ModuleData}
@@ -37,7 +37,7 @@ back_of t = L.data_of t.back
 
 -- The three modules have the same code under the match, and the same names of LLVM in the same order; function by
 -- function the dialect module is made by the rules of the import, and the module back by those of the export. The
--- dialect module keeps every rule of the dialect.
+-- dialect module keeps every rule of the dialect. The module back has no struct with a name, since no value is of one.
 pub record SameThroughout (m : ModuleData) (t : Transferred) : Type 0 where
   -- the names that were met, each with its identifier
   pub given : List Named
@@ -47,6 +47,7 @@ pub record SameThroughout (m : ModuleData) (t : Transferred) : Type 0 where
   pub back : SameCode (match_of m t.blocks) (Llvm.code_of m) (Llvm.code_of (back_of t))
   pub name : Gave given m.name (dialect_of t).name
   pub back_name : (back_of t).name ≡ (dialect_of t).name
+  pub back_structs : (back_of t).structs ≡ []
   pub functions : map D.llvm_name_of (dialect_of t).functions ≡ map (λ (f : L.Function). f.name) m.functions
   pub back_functions : map (λ (f : L.Function). f.name) (back_of t).functions ≡ map (λ (f : L.Function). f.name) m.functions
   pub imported : AreImported m given m.functions t.blocks (dialect_of t).functions

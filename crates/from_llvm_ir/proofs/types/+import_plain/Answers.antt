@@ -75,10 +75,9 @@ import_kind-returns-in_ok-fields-in-Literal-clause-tree t c =
 -- ---- the others
 
 pub import_kind-plain_kind-requires : goal.import_kind-plain_kind-requires
-import_kind-plain_kind-requires t c = record {
-  held = kind_held c.args.source.now c.requires.sound c.args.ty c.type_kind.result.now c.type_kind.ensures.kind c.requires.held;
-  plain = no_parts c.type_kind.result.now c.in_default.not-Array c.in_default.not-Vector c.in_default.not-Literal;
-}
+import_kind-plain_kind-requires t c =
+    let held = kind_held c.args.source.now c.requires.sound c.args.ty c.type_kind.result.now c.type_kind.ensures.kind c.requires.held in
+    record { held = held; plain = no_parts c.type_kind.result.now held c.in_default.not-Array c.in_default.not-Vector c.in_default.not-Literal }
 
 pub import_kind-returns-in_default : goal.import_kind-returns-in_default
 import_kind-returns-in_default t c =
