@@ -1,5 +1,5 @@
-//! Two modules imported into one context: both are there, each with its own functions. And one with a type that it does
-//! not use, for which the dialect has none.
+//! Two modules imported into one context: both are there, each with its own functions. And one with types that it does
+//! not use and that are not translated.
 
 ghost use Rattle.std.specs.Prelude.{◌<◌, ◌≤◌, IfSome, length};
 ghost use Rattle.llvm_core.specs.Data.{data_of};
@@ -14,6 +14,7 @@ use ll_text::read::read_ll;
 use llvm_core::module::LLVMModule;
 use llvm_core::types::LLVMTypeKind;
 use std::alloc::Global;
+use support::text::Text;
 
 /// A module of one function.
 const ONE: &str = "define i32 @f() {
@@ -116,7 +117,7 @@ fn takes_two_modules(alloc: Global) -> bool {
     are_both_there(alloc, &mut ctx)
 }
 
-/// Whether a module is there as ever that has such a type, and no value of it.
+/// Whether a module is there as ever that has types that are not translated, and no value of them.
 fn is_there_with_unused(alloc: Global, ctx: &mut Context) -> bool
     requires { IsTyped ctx.old }
 {
@@ -127,6 +128,12 @@ fn is_there_with_unused(alloc: Global, ctx: &mut Context) -> bool
         .type_get(LLVMTypeKind::Other(OtherType::Token))
         .is_err()
     {
+        return false;
+    }
+    let Ok(name) = Text::copy(alloc, "S") else {
+        return false;
+    };
+    if module.type_get(LLVMTypeKind::Named(name)).is_err() {
         return false;
     }
     match import_into(alloc, ctx, &module) {

@@ -1,6 +1,7 @@
 //! Tests of crates below, in a crate of their own, since a crate with tests is proved twice: what `check`, `well_formed`
 //! and the export answer to modules made by hand, the traces of a loop, the depth-first order and the dominance of small
-//! graphs, the identifiers of names, texts of types, sources and sinks, and `run` over faults and long texts.
+//! graphs, the identifiers of names, structs with a name, texts of types, sources and sinks, and `run` over faults and
+//! long texts.
 #![tactic(auto)]
 
 #[cfg(test)]
@@ -31,6 +32,8 @@ mod rules;
 mod runs;
 #[cfg(test)]
 mod sizes;
+#[cfg(test)]
+mod structs;
 #[cfg(test)]
 mod traces;
 #[cfg(test)]

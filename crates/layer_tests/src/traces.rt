@@ -1,5 +1,6 @@
 //! The traces of a loop that swaps and of a function of operations on integers, each of a function of LLVM and of the
-//! dialect function that stands for it; and that of a dialect function that uses a value of another.
+//! dialect function that stands for it; that of a function of values of structs with a name, which is not imported; and that
+//! of a dialect function that uses a value of another.
 
 ghost use Rattle.std.specs.Prelude.{◌≡◌, ◌<◌, All, IfOk, IfSome, length};
 ghost use Rattle.llvm_core.specs.Checked.{IsChecked};
@@ -71,6 +72,18 @@ const SHOWN: &str =
     "^0 udiv i32 i32 %0 %1 srem i32 i32 !0 %1 mul i32 i32 sub %0 freeze i8 trunc zext i8 !3 \
 xor i32 i32 !4 !0 select i1 i32 i32 %2 !5 %0 ret i8 trunc";
 
+/// Values of structs with a name.
+const STRUCTS: &str = "%S = type { i8, %T } %T = type opaque
+define %S @f(%T %a, %S %b) {
+  %c = freeze %T %a
+  %d = freeze %S %b
+  ret %S %d
+}
+";
+
+/// What the trace of the source shows; the import refuses it.
+const STRUCTS_SHOWN: &str = "^0 freeze T %0 freeze S %1 ret S !1";
+
 /// Two functions, of which the first branches on a value of the second.
 const FOREIGN: &[Step] = &[
     Step::Block(0),
@@ -116,12 +129,14 @@ fn op_word(op: Op) -> &'static str {
     }
 }
 
-fn type_word(kind: &LLVMTypeKind) -> &'static str {
+/// The word of a type; that of a struct is its name.
+fn type_word(kind: &LLVMTypeKind) -> &str {
     match kind {
         LLVMTypeKind::Int(1) => "i1",
         LLVMTypeKind::Int(8) => "i8",
         LLVMTypeKind::Int(32) => "i32",
         LLVMTypeKind::Void => "void",
+        LLVMTypeKind::Named(name) => name.as_str(),
         _ => "other",
     }
 }
@@ -279,6 +294,13 @@ fn both_sides_show_operations(rt: HostRuntime) {
     let (source, dialect) = both_show(rt.alloc(), OPERATIONS, SHOWN);
     assert!(rt; source, "the source");
     assert!(rt; dialect, "the dialect");
+}
+
+#[test]
+fn the_source_shows_structs(rt: HostRuntime) {
+    let (source, dialect) = both_show(rt.alloc(), STRUCTS, STRUCTS_SHOWN);
+    assert!(rt; source, "the source");
+    assert!(rt; !dialect, "the dialect");
 }
 
 #[test]

@@ -157,6 +157,100 @@ const READ: &[(&str, &str)] = &[
         "llvm.func <llvm.void (llvm.func <llvm.void (llvm.func <llvm.void (builtin.integer i3) variadic = false>) variadic = false>) variadic = true>",
         "llvm.func <llvm.void (llvm.func <llvm.void (llvm.func <llvm.void (builtin.integer i3) variadic = false>) variadic = false>) variadic = true>",
     ),
+    // Arrays.
+    (
+        "llvm.array [2 x builtin.integer i32]",
+        "llvm.array [2 x builtin.integer i32]",
+    ),
+    (
+        "llvm.array [0 x llvm.ptr (0)]",
+        "llvm.array [0 x llvm.ptr (0)]",
+    ),
+    (
+        "llvm.array [18446744073709551615 x builtin.fp64]",
+        "llvm.array [18446744073709551615 x builtin.fp64]",
+    ),
+    (
+        "llvm.array[007 x builtin.fp16]",
+        "llvm.array [7 x builtin.fp16]",
+    ),
+    (
+        " llvm.array\t[ 3\r\nx llvm.ptr(4) ] ",
+        "llvm.array [3 x llvm.ptr (4)]",
+    ),
+    (
+        "llvm.array [2 x llvm.array [3 x llvm.array [4 x builtin.integer i1]]]",
+        "llvm.array [2 x llvm.array [3 x llvm.array [4 x builtin.integer i1]]]",
+    ),
+    // Vectors.
+    (
+        "llvm.vector [4 x builtin.integer i32]",
+        "llvm.vector [4 x builtin.integer i32]",
+    ),
+    (
+        "llvm.vector [vscale 4 x builtin.integer i32]",
+        "llvm.vector [vscale 4 x builtin.integer i32]",
+    ),
+    (
+        "llvm.vector [1 x llvm.ptr (2)]",
+        "llvm.vector [1 x llvm.ptr (2)]",
+    ),
+    (
+        "llvm.vector [4294967295 x builtin.bf16]",
+        "llvm.vector [4294967295 x builtin.bf16]",
+    ),
+    (
+        "llvm.vector[vscale\n0016 x\tbuiltin.fp32]",
+        "llvm.vector [vscale 16 x builtin.fp32]",
+    ),
+    (
+        "llvm.array [2 x llvm.vector [vscale 2 x builtin.fp64]]",
+        "llvm.array [2 x llvm.vector [vscale 2 x builtin.fp64]]",
+    ),
+    // Structs.
+    ("llvm.struct <{}>", "llvm.struct <{}>"),
+    ("llvm.struct <packed {}>", "llvm.struct <packed {}>"),
+    (
+        "llvm.struct <{builtin.integer i32}>",
+        "llvm.struct <{builtin.integer i32}>",
+    ),
+    (
+        "llvm.struct <{builtin.integer i32, llvm.ptr (0)}>",
+        "llvm.struct <{builtin.integer i32, llvm.ptr (0)}>",
+    ),
+    (
+        "llvm.struct <packed {builtin.integer i8, builtin.fp64, builtin.integer i8}>",
+        "llvm.struct <packed {builtin.integer i8, builtin.fp64, builtin.integer i8}>",
+    ),
+    (
+        "llvm.struct<packed{llvm.ptr(1),llvm.ptr(1)}>",
+        "llvm.struct <packed {llvm.ptr (1), llvm.ptr (1)}>",
+    ),
+    (
+        "\nllvm.struct < { builtin.fp16 , builtin.bf16 } > ",
+        "llvm.struct <{builtin.fp16, builtin.bf16}>",
+    ),
+    (
+        "llvm.struct <{llvm.struct <packed {}>, llvm.struct <{}>}>",
+        "llvm.struct <{llvm.struct <packed {}>, llvm.struct <{}>}>",
+    ),
+    (
+        "llvm.struct <{llvm.array [2 x llvm.struct <packed {builtin.fp32}>], llvm.vector [2 x builtin.fp32]}>",
+        "llvm.struct <{llvm.array [2 x llvm.struct <packed {builtin.fp32}>], llvm.vector [2 x builtin.fp32]}>",
+    ),
+    (
+        "llvm.array [3 x llvm.struct <{llvm.ptr (0), builtin.integer i64}>]",
+        "llvm.array [3 x llvm.struct <{llvm.ptr (0), builtin.integer i64}>]",
+    ),
+    // Functions of types with parts.
+    (
+        "llvm.func <llvm.struct <{builtin.integer i1, builtin.integer i2}> (llvm.array [2 x builtin.fp32]) variadic = false>",
+        "llvm.func <llvm.struct <{builtin.integer i1, builtin.integer i2}> (llvm.array [2 x builtin.fp32]) variadic = false>",
+    ),
+    (
+        "llvm.func<llvm.vector[2 x builtin.fp64](llvm.struct<packed{builtin.fp64}>,llvm.void)variadic=true>",
+        "llvm.func <llvm.vector [2 x builtin.fp64] (llvm.struct <packed {builtin.fp64}>, llvm.void) variadic = true>",
+    ),
 ];
 
 /// Texts that are no type, each with the place of the byte that is told.
@@ -207,6 +301,43 @@ const REFUSED: &[(&str, u32)] = &[
         "llvm.func <llvm.void (llvm.void llvm.void) variadic = false>",
         32,
     ),
+    // Arrays.
+    ("llvm.array", 0),
+    ("llvm.array <2 x builtin.fp16>", 11),
+    ("llvm.array [x builtin.fp16]", 12),
+    ("llvm.array [2 builtin.fp16]", 14),
+    ("llvm.array [2x builtin.fp16]", 12),
+    ("llvm.array [2 x]", 15),
+    ("llvm.array [2 x builtin.fp16", 16),
+    ("llvm.array [2 x builtin.fp16 builtin.fp16]", 29),
+    ("llvm.array [18446744073709551616 x builtin.fp16]", 12),
+    ("llvm.array [-1 x builtin.fp16]", 12),
+    ("llvm.array [vscale 2 x builtin.fp16]", 12),
+    ("llvm.array [2 x llvm.void]", 25),
+    // Vectors.
+    ("llvm.vector [0 x builtin.fp16]", 29),
+    ("llvm.vector [4294967296 x builtin.fp16]", 38),
+    ("llvm.vector [vscale vscale 2 x builtin.fp16]", 20),
+    ("llvm.vector [vscale2 x builtin.fp16]", 13),
+    ("llvm.vector [2 vscale x builtin.fp16]", 15),
+    ("llvm.vector [2 x llvm.array [2 x builtin.fp16]]", 46),
+    ("llvm.vector [2 x llvm.struct <{}>]", 33),
+    // Structs.
+    ("llvm.struct {}", 12),
+    ("llvm.struct <>", 13),
+    ("llvm.struct <packed>", 19),
+    ("llvm.struct <{,}>", 14),
+    ("llvm.struct <{builtin.fp16,}>", 27),
+    ("llvm.struct <{builtin.fp16 builtin.fp16}>", 27),
+    ("llvm.struct <{} packed>", 16),
+    ("llvm.struct <{llvm.void}>", 24),
+    ("llvm.struct <{llvm.func <llvm.void () variadic = true>}>", 55),
+    ("llvm.struct <{builtin.fp16)>", 26),
+    ("llvm.struct <{builtin.fp16}", 26),
+    ("llvm.struct <@S>", 13),
+    // Functions of types with parts.
+    ("llvm.func <llvm.void (llvm.array [2 x llvm.void]) variadic = false>", 47),
+    ("llvm.func <llvm.void (builtin.fp16}) variadic = false>", 34),
     // More than a type.
     ("llvm.void llvm.void", 10),
 ];
@@ -277,12 +408,12 @@ fn is_nested_read(alloc: Global, functions: usize) -> bool {
 
 #[test]
 fn texts_are_read_as_types(rt: HostRuntime) {
-    assert_eq!(rt; first_misread(rt.alloc(), READ), 60);
+    assert_eq!(rt; first_misread(rt.alloc(), READ), 84);
 }
 
 #[test]
 fn texts_that_are_no_types_are_refused(rt: HostRuntime) {
-    assert_eq!(rt; first_taken(rt.alloc(), REFUSED), 40);
+    assert_eq!(rt; first_taken(rt.alloc(), REFUSED), 73);
 }
 
 #[test]

@@ -32,7 +32,7 @@ pub record Rounds (input : List ℕ) (t : Transferred) (text : List ℕ) : Type 
   pub checked : IsChecked source
   pub numbered : IsNumbered (L.data_of source)
   pub form : IsForm (L.data_of source)
-  -- the dialect has a type for each value
+  -- each value is of a type that is translated
   pub held : AreHeld (L.data_of source)
   pub spelled : Spells input (L.data_of source)
   pub same : SameThroughout (L.data_of source) t
