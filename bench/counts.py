@@ -88,6 +88,18 @@ def fields(size):
     return f"define void @f({{ {body} }} %s) {{\n  ret void\n}}\n"
 
 
+def named_fields(size):
+    """A struct with a name and many fields."""
+    body = repeated(lambda k: f"{', ' if k else ''}i{1 + k % 64}", size)
+    return f"%S = type {{ {body} }}\n"
+
+
+def named_struct(number):
+    """A struct with a name, which has two that stand before it in it."""
+    inner = f"%S{number // 2}, [2 x %S{number // 3}], " if number else ""
+    return f"%S{number} = type {{ {inner}i32 }}\n"
+
+
 def structs(number):
     """A function of one line over types that no other function has."""
     return f"define {{ i32, [{number} x ptr] }} @f{number}({{ i32, [{number} x ptr] }} %s) {{\n  ret {{ i32, [{number} x ptr] }} %s\n}}\n"
@@ -109,6 +121,8 @@ KINDS = {
     "many phis": phis,
     "functions of structs": lambda size: repeated(structs, size),
     "a struct of many fields": fields,
+    "structs with names": lambda size: repeated(named_struct, size),
+    "a named one of many fields": named_fields,
 }
 
 

@@ -24,7 +24,7 @@ EXTRA = [b"\n", b"\xff", b'%"x y"', b'@"x y"', b'"x y":'] + (
     b"% @ 0 1 -1 i1 i32 i64 i65 void add ret nuw nsw , ( ) { } = : define %0 %a 7: true br label phi icmp eq udiv "
     b"select freeze zext nneg trunc to slt unreachable [ ] %loop %x %y ptr addrspace addrspace(1) "
     b"addrspace(16777215) addrspace(16777216) half bfloat float double fp128 i8388608 i8388609 1.0 null "
-    b'x < > vscale < <4 x i32> [2 x i8] {} <{ }> source_filename @a.b @$ @-_ @7 @"7" @llvm.f %_.1 %"x" %"\\78" "x": "\\78": %"0" "0": %"" %"\\00" %"\xc3" '
+    b'x < > vscale type opaque %S < <4 x i32> [2 x i8] {} <{ }> source_filename @a.b @$ @-_ @7 @"7" @llvm.f %_.1 %"x" %"\\78" "x": "\\78": %"0" "0": %"" %"\\00" %"\xc3" '
     b'"\xc3\xa9\\"'
 ).split()
 

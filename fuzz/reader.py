@@ -7,7 +7,7 @@ import re
 from names import name_said, text_said
 from value_types import (
     BIT, COUNTS, DEEPEST, FLOATING, LACKED, LENGTHS, MAX_WIDTH, SPACES,
-    Array, Floating, Integer, Lacked, Pointer, Struct, Vector, depth, has_constants, is_element, is_field, is_integer, is_item,
+    Array, Floating, Integer, Lacked, Named, Pointer, Struct, Vector, depth, has_constants, is_element, is_field, is_integer, is_item,
 )
 
 PREDICATES = "eq ne ugt uge ult ule sgt sge slt sle".split()
@@ -152,6 +152,8 @@ class Reader:
     def flat_type(self):
         if self.peek()[0] == "int":
             return self.integer()
+        if self.peek()[0] == "local":
+            return Named(self.symbol_name("local"))
         if self.skip("ptr"):
             return Pointer(self.space() if self.skip("addrspace") else 0)
         word = self.take("word")
@@ -180,9 +182,9 @@ class Reader:
         text = text[:-1] if kind == "label" else text[1:]
         return int(text) if text.isdigit() else said(name_said, text)
 
-    def global_name(self):
-        """The name of a symbol, which digits are too."""
-        text = self.take("global")[1:]
+    def symbol_name(self, kind):
+        """The name of a symbol or a struct, which digits are too."""
+        text = self.take(kind)[1:]
         return text if text.isdigit() else said(name_said, text)
 
     def value(self, type):
@@ -201,19 +203,39 @@ class Reader:
         return (type, number % (1 << width))
 
     def file(self):
-        module = Node(name="", functions=[])
+        module = Node(name="", structs=[], functions=[])
         if self.skip("source_filename"):
             self.want("=")
             module.name = said(text_said, self.take("string"))
         while self.peek()[0] != "end":
-            module.functions.append(self.function())
+            if self.peek()[0] == "local":
+                module.structs.append(self.struct())
+            else:
+                module.functions.append(self.function())
         return module
+
+    def struct(self):
+        """A struct with a name, whose body is none where it is opaque."""
+        name = self.symbol_name("local")
+        self.want("=")
+        self.want("type")
+        return Node(name=name, body=self.struct_body())
+
+    def struct_body(self):
+        if self.skip("opaque"):
+            return None
+        packed = self.skip("<")
+        self.want("{")
+        body = Struct(packed, self.fields())
+        if packed:
+            self.want(">")
+        return body
 
     def function(self):
         self.want("define")
         self.skip("external")
         result = self.result()
-        name = self.global_name()
+        name = self.symbol_name("global")
         self.want("(")
         params = []
         if not self.skip(")"):

@@ -1,12 +1,15 @@
 """The types of values: how LLVM writes each (`str`), and how the dialect does, unless it lacks the type."""
 import dataclasses
 
+from names import printed
+
 MAX_WIDTH = 1 << 23  # of an integer, in bits
 MAX_CONSTANT = 64  # the width of a constant
 SPACES = 1 << 24  # so many address spaces there are
 FLOATING = {"half": "fp16", "bfloat": "bf16", "float": "fp32", "double": "fp64"}  # with their words in the dialect
 # types that the dialect lacks, with the words by which they are refused
 LACKED = {"x86_fp80": "X86Fp80", "fp128": "Fp128", "ppc_fp128": "PpcFp128", "x86_amx": "X86Amx", "token": "Token"}
+NAMED = "Struct"  # the word by which a struct with a name is refused
 
 
 @dataclasses.dataclass(frozen=True)
@@ -48,6 +51,15 @@ class Lacked:
 
     def __str__(self):
         return self.word
+
+
+@dataclasses.dataclass(frozen=True)
+class Named:
+    """A struct with a name, whose fields stand beside the types."""
+    name: str
+
+    def __str__(self):
+        return "%" + printed(self.name)
 
 
 @dataclasses.dataclass(frozen=True)
@@ -120,16 +132,46 @@ def is_item(type):
 
 def is_element(type):
     """Whether a vector may be made of the type."""
-    return is_item(type) and not isinstance(type, (Array, Vector, Struct))
+    return is_item(type) and not isinstance(type, (Array, Vector, Struct, Named))
+
+
+def nesting(type, structs):
+    """How deep a type nests through the fields of structs, given by name: none where that is deeper than is allowed, or
+    where it names a struct that there is not. The depths of structs are noted beside them."""
+    if isinstance(type, (Array, Vector)):
+        parts = [type.element]
+    elif isinstance(type, Struct):
+        parts = type.fields
+    elif isinstance(type, Named):
+        return struct_nesting(type.name, structs)
+    else:
+        parts = []
+    depths = [nesting(it, structs) for it in parts]
+    return None if None in depths or max(depths, default=0) >= DEEPEST else 1 + max(depths, default=0)
+
+
+def struct_nesting(name, structs):
+    """How deep the struct of that name nests."""
+    if name not in structs:
+        return None
+    struct = structs[name]
+    if not hasattr(struct, "depth"):
+        struct.depth = None  # one that is in itself has none
+        depths = [nesting(it, structs) for it in (struct.body.fields if struct.body else ())]
+        if None not in depths and max(depths, default=0) < DEEPEST:
+            struct.depth = 1 + max(depths, default=0)
+    return struct.depth
 
 
 def lacked_in(type):
-    """The types that the dialect lacks among those that a type is made of."""
+    """The words of the types that are not translated among those that a type is made of."""
     if isinstance(type, (Array, Vector)):
         return lacked_in(type.element)
     if isinstance(type, Struct):
         return [word for it in type.fields for word in lacked_in(it)]
-    return [type.word] if isinstance(type, Lacked) else []
+    if isinstance(type, Named):
+        return [NAMED]
+    return [LACKED[type.word]] if isinstance(type, Lacked) else []
 
 
 def is_integer(type):
