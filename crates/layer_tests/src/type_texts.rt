@@ -331,12 +331,18 @@ const REFUSED: &[(&str, u32)] = &[
     ("llvm.struct <{builtin.fp16 builtin.fp16}>", 27),
     ("llvm.struct <{} packed>", 16),
     ("llvm.struct <{llvm.void}>", 24),
-    ("llvm.struct <{llvm.func <llvm.void () variadic = true>}>", 55),
+    (
+        "llvm.struct <{llvm.func <llvm.void () variadic = true>}>",
+        55,
+    ),
     ("llvm.struct <{builtin.fp16)>", 26),
     ("llvm.struct <{builtin.fp16}", 26),
     ("llvm.struct <@S>", 13),
     // Functions of types with parts.
-    ("llvm.func <llvm.void (llvm.array [2 x llvm.void]) variadic = false>", 47),
+    (
+        "llvm.func <llvm.void (llvm.array [2 x llvm.void]) variadic = false>",
+        47,
+    ),
     ("llvm.func <llvm.void (builtin.fp16}) variadic = false>", 34),
     // More than a type.
     ("llvm.void llvm.void", 10),
