@@ -25,14 +25,14 @@ use Rattle.llvm_core.specs.Sound.{AreFieldsIn, IsStructIn, IsModule}
 use Rattle.llvm_core.specs.Data.{TypeTree, TypeTrees, FunctionType, IntConst, PlaceholderConst, Operand, Constant, Parameter, Result, Placed, Block, Function, StructBody, ModuleData, Instruction, Phi, Applied, type_at, types_at, trees_of, fields_of, struct_of, data_of, operand_type}
 use Rattle.llvm_core.specs.declared.check_err.Place.TheVariants as P
 use Rattle.llvm_core.specs.declared.check_err.CheckErr.TheVariants.{TooDeep}
-use Rattle.llvm_core.specs.Checked.{IsChecked, is_deep}
+use Rattle.llvm_core.specs.Checked.{IsChecked, is_deep, struct_names}
 use Rattle.llvm_core.specs.Form.{IsOperandOf, IsOperand, IsForm, IsFormFunction, IsFormBlock, IsFormPlaced, IsFormInstruction, IsNarrow, IsNarrowFunction, IsNarrowBlock, IsNarrowPlaced, IsNarrowConst, operands_of}
 use Rattle.llvm_core.proofs.DataLemmas.{within_at, function_at, function_tree_of, block_count_of, block_of_number}
 use Rattle.llvm_core.proofs.FormTypes.{signature_of, function_typed}
 use Rattle.llvm_core.proofs.FormPlaces.{shown, block_from}
 use Rattle.llvm_core.proofs.DistinctLaws.{each_function, blocks_once}
 use Rattle.llvm_core.proofs.CheckedForm.{form_of_checked}
-use Rattle.llvm_form.specs.Narrow.{is_good_or_none, is_first_class_type, is_returned_kind, is_narrow_block, is_narrow_block_data, is_narrow_signature, has_body, is_narrow_function_data, struct_names, is_narrow}
+use Rattle.llvm_form.specs.Narrow.{is_good_or_none, is_first_class_type, is_returned_kind, is_narrow_block, is_narrow_block_data, is_narrow_signature, has_body, is_narrow_function_data, is_narrow}
 use Rattle.llvm_form.specs.Once.{HasInstsOnce, AreInstsOnce}
 use Rattle.llvm_form.proofs.AllLaws.{each_passes, all_pass, all_mapped, mapped_decided}
 use Rattle.llvm_form.proofs.TypeLaws.{good_or_none, deep_shallow, first_class_types, returned_decided}

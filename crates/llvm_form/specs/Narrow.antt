@@ -1,5 +1,5 @@
 -- What the form asks beside the rules of a checked module, as a test over the lists of a module.
-use Rattle.std.specs.Prelude.{ℕ, Bool, true, false, not, ◌&&◌, ◌||◌, nat_le, nat_lt, List, [], ◌∷◌, map, slice_get, length}
+use Rattle.std.specs.Prelude.{ℕ, Bool, true, false, not, ◌&&◌, ◌||◌, nat_le, nat_lt, List, [], ◌∷◌, slice_get, length}
 use Rattle.std.specs.List.{list_all}
 use Rattle.std.specs.Option.{option_map_or}
 use Rattle.llvm_core.specs.declared.types.LLVMTypeKind.{LLVMTypeKind}
@@ -12,7 +12,6 @@ use Rattle.llvm_core.specs.declared.consts.LLVMConstKind.{LLVMConstKind}
 use Rattle.llvm_core.specs.declared.consts.LLVMConstKind.TheVariants as C
 use Rattle.llvm_core.specs.declared.code.LLVMValue.{LLVMValue}
 use Rattle.llvm_core.specs.declared.code.LLVMValue.TheVariants as V
-use Rattle.llvm_core.specs.declared.structs.StructData.{StructData}
 use Rattle.llvm_core.specs.declared.code.FunctionData.{FunctionData}
 use Rattle.llvm_core.specs.declared.code.BlockData.{BlockData}
 use Rattle.llvm_core.specs.declared.code.InstData.{InstData}
@@ -20,7 +19,7 @@ use Rattle.llvm_core.specs.Module.{Module}
 use Rattle.llvm_core.specs.Names.{is_good_name}
 use Rattle.llvm_core.specs.Parts.{is_kind, shape_of, value_type, operands}
 use Rattle.kinds.specs.Fitting.{is_first_class, width_of}
-use Rattle.llvm_core.specs.Checked.{is_void}
+use Rattle.llvm_core.specs.Checked.{is_void, struct_names}
 
 -- ---- names and types
 
@@ -98,9 +97,6 @@ module _ (m : Module) where
 
   -- ---- structs
 
-  abbrev pub struct_names : List (List ℕ)
-  struct_names = map (λ (x : StructData). x.name) m.structs
-
   -- of a struct its name is asked: its fields are of types of values, as those of each struct of a module
   abbrev pub is_narrow : Bool
-  is_narrow = list_all is_narrow_function_data m.functions && list_all is_good_name struct_names
+  is_narrow = list_all is_narrow_function_data m.functions && list_all is_good_name (struct_names m)

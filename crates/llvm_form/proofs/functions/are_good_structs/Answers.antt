@@ -3,7 +3,7 @@ use Rattle.std.proofs.Common.{sym, ◌∙◌}
 use Rattle.std.proofs.lemmas.Option.{slice_get-map}
 use Rattle.llvm_core.specs.declared.structs.StructData.{StructData}
 use Rattle.llvm_core.specs.Names.{is_good_name}
-use Rattle.llvm_form.specs.Narrow.{struct_names}
+use Rattle.llvm_core.specs.Checked.{struct_names}
 use Rattle.llvm_form.proofs.AllLaws.{one_fails, one_more}
 use Rattle.llvm_form.proofs.functions.are_good_structs.Goals as goal
 

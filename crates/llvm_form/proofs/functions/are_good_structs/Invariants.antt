@@ -2,7 +2,7 @@
 use Rattle.std.proofs.Common.{◌≡◌, take, true}
 use Rattle.std.specs.List.{list_all}
 use Rattle.llvm_core.specs.Names.{is_good_name}
-use Rattle.llvm_form.specs.Narrow.{struct_names}
+use Rattle.llvm_core.specs.Checked.{struct_names}
 use Rattle.llvm_form.proofs.functions.are_good_structs.Given as goal
 
 abbrev pub invariant-loop-s : goal.invariant-loop-s
