@@ -2,12 +2,11 @@
 use Rattle.std.proofs.Common.{arith, ◌≡◌, ◌≤◌, ◌<◌, ◌^◌, ℕ, Bool, true, false, ◌||◌, refl, ap, ◌∙◌, Some, None, All}
 use Rattle.kinds.specs.declared.fitting.Shape.{Shape}
 use Rattle.kinds.specs.declared.fitting.Shape.TheVariants as S
-use Rattle.kinds.specs.declared.types.Lack.{Lack}
 use Rattle.kinds.specs.Types.{TypeTree, VoidType, IntType, PointerType, FloatingType, RefusedType, ArrayType, VectorType, StructType, NamedType, FunctionType, shape, depth, parts_of}
 use Rattle.kinds.specs.Fitting.{is_value, is_first_class, is_held}
-use Rattle.kinds.specs.Held.{is_void, own_type, too_deep, throughout, IsShallow, IsFirstClass, IsReturned, IsHeld, IsHeldResult, HoldsLack, lack_of}
+use Rattle.kinds.specs.Held.{is_void, own_type, too_deep, throughout, IsShallow, IsFirstClass, IsReturned, IsHeld, IsHeldResult, refused_of}
 use Rattle.kinds.proofs.DepthLaws.{flat_shallow, parts_shallow}
-use Rattle.kinds.proofs.PartLaws.{throughout_shape, parts_throughout, throughout_weaker, first_held, held_holds_none, void_holds_none, All-both}
+use Rattle.kinds.proofs.PartLaws.{throughout_shape, parts_throughout, throughout_weaker, first_held, All-both}
 
 -- ---- void
 
@@ -206,20 +205,13 @@ held_result_returned t h = by (is_void t) refl
     by true is = returned_void t is
     by false is = returned_if t (held_first_class t (held_result_own t h is))
 
--- what is returned is translated, unless it holds a type that is not
-pub returned_held : (t : TypeTree) → IsReturned t → lack_of t ≡ None → IsHeldResult t
+-- what is returned is translated, unless it is made of a type for which the dialect has none
+pub returned_held : (t : TypeTree) → IsReturned t → refused_of t ≡ None → IsHeldResult t
 returned_held t h none = by (is_void t) refl
   where
     by : (v : Bool) → is_void t ≡ v → IsHeldResult t
     by true is = held_result_void t is
     by false is = let own = returned_own t h is in held_result_if t (held_by t (first_held t none (first_class_throughout t own)) (first_class_shallow t own))
-
-pub held_result_holds_none : (lack : Lack) (t : TypeTree) → HoldsLack lack t → IsHeldResult t → ⊥
-held_result_holds_none of t inside h = by (is_void t) refl
-  where
-    by : (v : Bool) → is_void t ≡ v → ⊥
-    by true is = void_holds_none of t inside (void_is t is)
-    by false is = held_holds_none of t inside (held_throughout t (held_result_own t h is))
 
 -- ---- integers
 

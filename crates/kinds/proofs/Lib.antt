@@ -2,6 +2,7 @@
 pub mod TypeLaws
 pub mod DepthLaws
 pub mod NestLaws
+pub mod RenamedLaws
 pub mod PartLaws
 pub mod FittingLaws
 pub mod TableLaws

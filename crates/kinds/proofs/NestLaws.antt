@@ -1,6 +1,8 @@
 -- How deep types nest through the fields of structs.
-use Rattle.std.proofs.Common.{arith, ◌≡◌, ◌≤◌, ◌+◌, ◌-◌, max, ℕ, zero, suc, Bool, true, false, ◌&&◌, ◌||◌, refl, subst, sym, List, [], All, Option, Some, None}
+use Rattle.std.proofs.Common.{arith, ◌≡◌, ◌≤◌, ◌+◌, ◌-◌, max, ℕ, zero, suc, Bool, true, false, ◌&&◌, ◌||◌, refl, ap, subst, sym, List, [], ◌∷◌, ◌++◌, All, Option, Some, None, if◌then◌else◌}
 use Rattle.std.specs.Option.{option_map_or}
+use Rattle.std.specs.Str.{bytes_eq}
+use Rattle.std.proofs.lemmas.Slice.Eq.{bytes_eq-Decides}
 use Rattle.std.proofs.lemmas.List.Elements.{All-nil, All-cons, All-head, All-tail}
 use Rattle.kinds.specs.Types.{TypeTree, VoidType, IntType, PointerType, FloatingType, RefusedType, ArrayType, VectorType, StructType, NamedType, FunctionType, TypeTrees, NoTypes, ThenType, shape, types_list, parts_of, depth, depths}
 use Rattle.kinds.specs.Fitting.{is_held, is_field, is_array_of, is_vector_of}
@@ -119,79 +121,43 @@ module _ (structs : List Struct) where
   unfolding deepest
   int_nested w = refl
 
--- ---- types that are translated
+-- ---- more structs
 
--- each type is one, whatever is in it
-depth_some : (t : TypeTree) → 1 ≤ depth t
-depth_some (ArrayType c t) = omega arith
-depth_some (VectorType k c t) = omega arith
-depth_some (StructType l ts) = omega arith
-depth_some (FunctionType r ps v) = omega arith
-depth_some (NamedType name) = omega arith
-depth_some VoidType = omega arith
-depth_some (IntType w) = omega arith
-depth_some (PointerType s) = omega arith
-depth_some (FloatingType a) = omega arith
-depth_some (RefusedType a) = omega arith
+found_longer : (ss more : List Struct) (name : List ℕ) (s : Struct) → struct_in ss name ≡ Some s → struct_in (ss ++ more) name ≡ Some s
+found_longer [] more name s e = cc
+found_longer (x ∷ ss) more name s e = by (bytes_eq x.name name) e (found_longer ss more name s)
+  where
+    by : (b : Bool) → (if b then Some x else struct_in ss name) ≡ Some s → (struct_in ss name ≡ Some s → struct_in (ss ++ more) name ≡ Some s) → (if b then Some x else struct_in (ss ++ more) name) ≡ Some s
+    by true e next = e
+    by false e next = next e
 
-module _ (structs : List Struct) where
-  mutual
-    -- they name no struct, and so nest as deep as they say themselves, whatever structs there are
-    pub held_nests : (n : ℕ) (t : TypeTree) → throughout is_held t ≡ true → depth t ≤ n → nests structs n t ≡ true
-    held_nests zero t h below = absurd (omega (arith, depth_some t, below))
-    held_nests (suc n) (ArrayType c t) h below = held_nests n t (and_right (is_array_of c (shape t)) (throughout is_held t) h) (omega (arith, below))
-    held_nests (suc n) (VectorType k c t) h below = held_nests n t (and_right (is_vector_of c (shape t)) (throughout is_held t) h) (omega (arith, below))
-    held_nests (suc n) (StructType l ts) h below = each_nests n ts h (omega (arith, below))
-    held_nests (suc n) (NamedType name) h below = cc
-    held_nests (suc n) (FunctionType r ps v) h below = cc
-    held_nests (suc n) VoidType h below = refl
-    held_nests (suc n) (IntType w) h below = refl
-    held_nests (suc n) (PointerType s) h below = refl
-    held_nests (suc n) (FloatingType a) h below = refl
-    held_nests (suc n) (RefusedType a) h below = refl
+there_longer : (ss more : List Struct) (name : List ℕ) (p q : TypeTree → Bool) → ((t : TypeTree) → p t ≡ true → q t ≡ true) → (o : Option Struct) → struct_in ss name ≡ o → option_map_or (each_field p) o false ≡ true
+    → option_map_or (each_field q) (struct_in (ss ++ more) name) false ≡ true
+there_longer ss more name p q f None is h = cc
+there_longer ss more name p q f (Some s) is h = subst (λ (o : Option Struct). option_map_or (each_field q) o false ≡ true) (sym (found_longer ss more name s is)) (field_weaker p q f s h)
 
-    each_nests : (n : ℕ) (ts : TypeTrees) → each_throughout is_held ts ≡ true → depths ts ≤ n → each_type (nests structs n) ts ≡ true
-    each_nests n NoTypes h below = refl
-    each_nests n (ThenType t ts) h below =
-        let front = and_left (is_field (shape t) && throughout is_held t) (each_throughout is_held ts) h in
-        let a = held_nests n t (and_right (is_field (shape t)) (throughout is_held t) front) (omega (arith, below)) in
-        let b = each_nests n ts (and_right (is_field (shape t) && throughout is_held t) (each_throughout is_held ts) h) (omega (arith, below)) in
-        cc
+-- what nests does so where there are more structs behind
+pub nests_longer : (ss more : List Struct) (n : ℕ) (t : TypeTree) → nests ss n t ≡ true → nests (ss ++ more) n t ≡ true
+nests_longer ss more zero t h = cc
+nests_longer ss more (suc n) (ArrayType c t) h = nests_longer ss more n t h
+nests_longer ss more (suc n) (VectorType k c t) h = nests_longer ss more n t h
+nests_longer ss more (suc n) (StructType l ts) h = each_weaker (nests ss n) (nests (ss ++ more) n) (nests_longer ss more n) ts h
+nests_longer ss more (suc n) (NamedType name) h = there_longer ss more name (nests ss n) (nests (ss ++ more) n) (nests_longer ss more n) (struct_in ss name) refl h
+nests_longer ss more (suc n) (FunctionType r ps v) h =
+    let a = nests_longer ss more n r (and_left (nests ss n r) (each_type (nests ss n) ps) h) in
+    let b = each_weaker (nests ss n) (nests (ss ++ more) n) (nests_longer ss more n) ps (and_right (nests ss n r) (each_type (nests ss n) ps) h) in
+    cc
+nests_longer ss more (suc n) VoidType h = refl
+nests_longer ss more (suc n) (IntType w) h = refl
+nests_longer ss more (suc n) (PointerType s) h = refl
+nests_longer ss more (suc n) (FloatingType a) h = refl
+nests_longer ss more (suc n) (RefusedType a) h = refl
 
-  -- nor does what is returned
-  result_nests : (n : ℕ) (t : TypeTree) → (is_void t || throughout is_held t) ≡ true → depth t ≤ n → nests structs n t ≡ true
-  result_nests zero t h below = absurd (omega (arith, depth_some t, below))
-  result_nests (suc n) t h below = by (is_void t) refl
-    where
-      by : (v : Bool) → is_void t ≡ v → nests structs (suc n) t ≡ true
-      by true is = let none : nests structs (suc n) VoidType ≡ true = refl in subst (λ (u : TypeTree). nests structs (suc n) u ≡ true) (sym (void_is t is)) none
-      by false is = held_nests (suc n) t (cc) below
-
-  all_nest : (n : ℕ) (ts : TypeTrees) → All IsHeldResult (types_list ts) → depths ts ≤ n → each_type (nests structs n) ts ≡ true
-  unfolding IsHeldResult
-  all_nest n NoTypes h below = refl
-  all_nest n (ThenType t ts) h below =
-      let a = result_nests n t (All-head IsHeldResult t (types_list ts) h).0 (omega (arith, below)) in
-      let b = all_nest n ts (All-tail IsHeldResult t (types_list ts) h) (omega (arith, below)) in
-      cc
-
-  function_nests : (n : ℕ) (r : TypeTree) (ps : TypeTrees) (v : Bool) → IsHeldResult r → All IsHeldResult (types_list ps) → depth (FunctionType r ps v) ≤ n → nests structs n (FunctionType r ps v) ≡ true
-  unfolding IsHeldResult
-  function_nests zero r ps v returns takes below = absurd (omega (arith, below))
-  function_nests (suc n) r ps v returns takes below =
-      let a = result_nests n r returns.0 (omega (arith, below)) in
-      let b = all_nest n ps takes (omega (arith, below)) in
-      cc
-
-  shallow_depth : (t : TypeTree) → IsShallow t → depth t ≤ deepest
-  unfolding too_deep
-  shallow_depth t h = grind arith
-
-  -- so a type of a value that is translated nests no deeper than is allowed, and void
-  pub held_result_nested : (t : TypeTree) → IsHeldResult t → IsNested structs t
-  unfolding IsHeldResult
-  held_result_nested t h = result_nests deepest t h.0 (shallow_depth t h.1)
-
-  -- and the type of a function over such types, where it is shallow
-  pub function_nested : (r : TypeTree) (ps : TypeTrees) (v : Bool) → IsHeldResult r → All IsHeldResult (types_list ps) → IsShallow (FunctionType r ps v) → IsNested structs (FunctionType r ps v)
-  function_nested r ps v returns takes h = function_nests deepest r ps v returns takes (shallow_depth (FunctionType r ps v) h)
+-- a struct that stands last is found by its name, where no other has it
+pub found_last : (ss : List Struct) (s : Struct) → struct_in ss s.name ≡ None → struct_in (ss ++ s ∷ []) s.name ≡ Some s
+found_last [] s none = ap (λ (b : Bool). if b then Some s else None) ((bytes_eq-Decides s.name s.name).1 refl)
+found_last (x ∷ ss) s none = by (bytes_eq x.name s.name) none (found_last ss s)
+  where
+    by : (b : Bool) → (if b then Some x else struct_in ss s.name) ≡ None → (struct_in ss s.name ≡ None → struct_in (ss ++ s ∷ []) s.name ≡ Some s) → (if b then Some x else struct_in (ss ++ s ∷ []) s.name) ≡ Some s
+    by true none next = cc
+    by false none next = next none

@@ -89,7 +89,7 @@ is_first_class S.Made = true
 is_first_class S.Named = true
 is_first_class S.Function = false
 
--- one that is translated: not so a type of values for which the dialect has no type, nor an identified struct
+-- one that is translated: not so a type of values for which the dialect has no type
 abbrev pub is_held : Shape → Bool
 is_held S.Void = false
 is_held (S.Int w) = nat_le 1 w && nat_le w (2 ^ 23)
@@ -97,7 +97,7 @@ is_held (S.Pointer space) = nat_lt space (2 ^ 24)
 is_held S.Other = true
 is_held (S.Refused of) = false
 is_held S.Made = true
-is_held S.Named = false
+is_held S.Named = true
 is_held S.Function = false
 
 -- ---- what a type is made of

@@ -1,8 +1,7 @@
 -- What types stand where: those of values, those that are translated, those of functions.
 use Rattle.std.specs.Prelude.{◌≡◌, ◌≤◌, ℕ, List, Bool, true, false, ◌&&◌, ◌||◌, nat_lt, if◌then◌else◌, Option, Some, None, All, slice_get}
 use Rattle.std.specs.Option.{option_or}
-use Rattle.kinds.specs.declared.types.Lack.{Lack}
-use Rattle.kinds.specs.declared.types.Lack.TheVariants as K
+use Rattle.kinds.specs.declared.types.OtherType.{OtherType}
 use Rattle.kinds.specs.declared.fitting.Shape.{Shape}
 use Rattle.kinds.specs.Types.{TypeTree, TypeTrees, NoTypes, ThenType, RefusedType, ArrayType, VectorType, StructType, NamedType, FunctionType, shape, types_list, parts_of, depth}
 use Rattle.kinds.specs.Fitting.{is_nothing, is_first_class, is_held, is_field, is_array_of, is_vector_of, width_of}
@@ -58,7 +57,7 @@ IsFirstClass t = (throughout is_first_class t ≡ true) × IsShallow t
 unfoldable pub IsReturned : TypeTree → Type 0
 IsReturned t = ((is_void t || throughout is_first_class t) ≡ true) × IsShallow t
 
--- a type of a value that is translated: each for which the dialect has one, but for identified structs
+-- a type of a value that is translated: each for which the dialect has one
 unfoldable pub IsHeld : TypeTree → Type 0
 IsHeld t = (throughout is_held t ≡ true) × IsShallow t
 
@@ -66,35 +65,20 @@ IsHeld t = (throughout is_held t ≡ true) × IsShallow t
 unfoldable pub IsHeldResult : TypeTree → Type 0
 IsHeldResult t = ((is_void t || throughout is_held t) ≡ true) × IsShallow t
 
--- ---- types that are not translated
-
--- a type, and what it is made of, all the way in
-pub data Holds (u : TypeTree) : TypeTree → Type 0 where
-  Itself : Holds u u
-  InPart : (t v : TypeTree) → (i : ℕ) → slice_get (parts_of t) i ≡ Some v → Holds u v → Holds u t
-
--- the type is one that is not translated, of that sort: a line for each sort
-abbrev pub IsLacked : Lack → TypeTree → Type 0
-IsLacked (K.Other of) t = t ≡ RefusedType of
-IsLacked K.Struct t = (name : List ℕ) × (t ≡ NamedType name)
-
--- a type holds one of that sort
-abbrev pub HoldsLack : Lack → TypeTree → Type 0
-HoldsLack lack t = (u : TypeTree) × IsLacked lack u × Holds u t
+-- ---- types for which the dialect has none
 
 abbrev mutual
-  -- the sort of the first of these types that a type holds: a line for each kind that is lacked, or has parts
-  pub lack_of : TypeTree → Option Lack
-  lack_of (RefusedType of) = Some (K.Other of)
-  lack_of (NamedType name) = Some K.Struct
-  lack_of (ArrayType count t) = lack_of t
-  lack_of (VectorType kind count t) = lack_of t
-  lack_of (StructType layout ts) = lack_in ts
-  lack_of _ = None
+  -- the first of these types that a type is or is made of, not looking into structs with a name: a line for each kind with parts
+  pub refused_of : TypeTree → Option OtherType
+  refused_of (RefusedType of) = Some of
+  refused_of (ArrayType count t) = refused_of t
+  refused_of (VectorType kind count t) = refused_of t
+  refused_of (StructType layout ts) = refused_in ts
+  refused_of _ = None
 
-  pub lack_in : TypeTrees → Option Lack
-  lack_in NoTypes = None
-  lack_in (ThenType t ts) = option_or (lack_of t) (lack_in ts)
+  pub refused_in : TypeTrees → Option OtherType
+  refused_in NoTypes = None
+  refused_in (ThenType t ts) = option_or (refused_of t) (refused_in ts)
 
 -- the width of an integer constant that is translated
 abbrev pub IsShortWidth : ℕ → Type 0

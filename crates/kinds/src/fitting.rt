@@ -134,8 +134,7 @@ pub fn is_first_class(shape: Shape) -> bool
     }
 }
 
-/// Whether it is that of a type that is translated: each type of a value for which the dialect has one, and no struct
-/// with a name.
+/// Whether it is that of a type that is translated: each type of a value for which the dialect has one.
 pub fn is_held(shape: Shape) -> bool
     ensures { result ≡ is_held shape }
 {
@@ -146,7 +145,7 @@ pub fn is_held(shape: Shape) -> bool
         Shape::Other => true,
         Shape::Refused(_) => false,
         Shape::Made => true,
-        Shape::Named => false,
+        Shape::Named => true,
         Shape::Function => false,
     }
 }

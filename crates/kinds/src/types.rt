@@ -32,15 +32,6 @@ pub enum OtherType {
     Token,
 }
 
-/// What is not translated yet of the types of LLVM's side: a line for each sort.
-#[derive(Clone, Copy, PartialEq, Eq, Hash, Debug, Drop)]
-pub enum Lack {
-    /// A type for which the dialect has none.
-    Other(OtherType),
-    /// A struct with a name.
-    Struct,
-}
-
 /// How many elements a vector has (Language Reference, Vector Type).
 #[derive(Clone, Copy, PartialEq, Eq, Hash, Debug, Drop)]
 pub enum VectorTypeKind {
