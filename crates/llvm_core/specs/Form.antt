@@ -160,12 +160,10 @@ pub record IsForm (d : ModuleData) : Type 0 where
 abbrev pub value_types : Function → List TypeTree
 value_types f = result_of f.type ∷ params_of f.type ++ map (λ (p : Placed). p.type) (placed_in f)
 
+-- each value of the function is of a type that is translated, as far as the type itself says: what stands in the structs
+-- that it names is not looked at
 abbrev pub IsHeldFunction : Function → Type 0
 IsHeldFunction f = All IsHeldResult (value_types f)
-
--- each value of a function of the module is of a type that is translated
-abbrev pub AreHeld : ModuleData → Type 0
-AreHeld d = All IsHeldFunction d.functions
 
 -- ---- what the form asks beside the rules of a checked module
 
