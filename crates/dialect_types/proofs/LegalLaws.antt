@@ -1,5 +1,6 @@
 -- Names and their identifiers: which identifier a name asks for, which suffixes are taken, and what a name that is met adds.
 use Rattle.std.proofs.Common.{◌≡◌, ◌<◌, ◌≤◌, ◌+◌, ◌/◌, ◌%◌, inl, inr, ℕ, zero, suc, Bool, true, false, not, if◌then◌else◌, ◌&&◌, ◌||◌, ◌==◌, nat_eq, nat_lt, List, [], ◌∷◌, ◌++◌, Option, Some, None, length, map, take, replicate, slice_get, slice_set, get_or, ap, sym, ◌∙◌, refl, subst, arith, length-append}
+use Rattle.std.specs.Prelude.{IfSome, position, is_some}
 use Rattle.std.specs.Bool.{Decides}
 use Rattle.std.specs.Cmp.{unsigned_Decides}
 use Rattle.std.specs.Cmp.Lexicographic.{pointwise, pointwise_decides}
@@ -8,7 +9,8 @@ use Rattle.std.specs.List.{list_any, list_all}
 use Rattle.std.proofs.lemmas.Bool.{cases_order}
 use Rattle.std.proofs.lemmas.List.{append-nil, append_assoc, map-append, take-append-le, take_all, take_more}
 use Rattle.std.proofs.lemmas.List.Folds.{list_all-append, list_any_at}
-use Rattle.std.proofs.lemmas.Option.{get_or_from_slice_get, slice_get_within, same_Some}
+use Rattle.std.proofs.lemmas.List.Quantifiers.{position-Some}
+use Rattle.std.proofs.lemmas.Option.{get_or_from_slice_get, slice_get-get_or, slice_get_within, same_Some}
 use Rattle.support.specs.Interned.{IsDistinctList}
 use Rattle.support.proofs.ListLaws.{slice_get-kept, slice_get-push, slice_get-push_cases, slice_get-behind_cases, slice_get-set_cases, distinct_push, item_there}
 use Rattle.indexmap.specs.IndexSet.{insert_key}
@@ -39,6 +41,16 @@ put_met old new t fresh at is grown stored was = by (list_any (pointwise nat_eq 
     by : (b : Bool) → fresh ≡ not b → new ≡ (if b then old else old ++ t ∷ []) → IsPut old new t (Some at)
     by true f g = (g, ap (λ xs. slice_get xs at) (sym g) ∙ stored.1 ∙ ap Some (sym ((texts_decide t stored.0).0 stored.2)))
     by false f g = absurd (let wrong : ⊥ = cc in wrong)
+
+-- a text stands where it is found, and nowhere where it is not
+pub found_text : (xs : List (List ℕ)) (t : List ℕ) (r : Option ℕ) → r ≡ position (pointwise nat_eq t) xs → IfSome r (λ (at : ℕ). slice_get xs at ≡ Some t)
+found_text xs t None is = tt
+found_text xs t (Some i) is =
+    let at = position-Some (pointwise nat_eq t) xs i [] (sym is) in
+    slice_get-get_or xs i [] at.0 ∙ ap Some (sym ((texts_decide t (get_or xs i [])).0 at.1))
+
+pub found_none : (xs : List (List ℕ)) (t : List ℕ) (r : Option ℕ) → is_some r ≡ list_any (pointwise nat_eq t) xs → r ≡ None → ¬ (IsIn xs t)
+found_none xs t r is none = absent xs t (sym is ∙ ap is_some none)
 
 -- the same of what equals them
 pub put_as : (old new : List (List ℕ)) (t n : List ℕ) (o p : Option ℕ) → o ≡ p → t ≡ n → IsPut old new t o → IsPut old new n p

@@ -1,8 +1,11 @@
 -- The lemmas that proofs cite.
+pub mod DepthLaws
 pub mod DigitLemmas
 pub mod KeyLemmas
 pub mod LegalLaws
+pub mod NamedLaws
 pub mod PrintedTypes
 pub mod StoredLaws
+pub mod StructLaws
 pub mod TextLemmas
 pub mod TreeLemmas

@@ -1,14 +1,22 @@
 -- Bytes that keep what stood there before, and texts with commas between them.
-use Rattle.std.proofs.Common.{◌≡◌, ◌≤◌, ◌<◌, ◌+◌, ℕ, zero, suc, Ok, Err, Bool, List, [], ◌∷◌, ◌++◌, length, get_or, take, map, refl, sym, ◌∙◌, ap, append_assoc, arith}
+use Rattle.std.proofs.Common.{◌≡◌, ◌≤◌, ◌<◌, ◌+◌, ℕ, zero, suc, Ok, Err, Bool, Option, Some, None, List, [], ◌∷◌, ◌++◌, length, slice_get, subst, get_or, take, map, refl, sym, ◌∙◌, ap, append_assoc, arith}
 use Rattle.std.specs.Fmt.{decimal}
-use Rattle.std.specs.Prelude.{OnOk, Result, codes, is_ok, if◌then◌else◌}
+use Rattle.std.specs.Prelude.{IfSome, OnOk, Result, codes, is_ok, if◌then◌else◌}
+use Rattle.std.specs.List.{filter_map, flat_map, cons_option}
+use Rattle.std.specs.Option.{option_map_or}
+use Rattle.std.proofs.lemmas.List.Elements.{filter_map-append}
+use Rattle.std.proofs.lemmas.Grind.{flat_map-append}
+use Rattle.support.proofs.ListLaws.{take_next}
 use Rattle.std.proofs.Math.Seq.{take-length}
 use Rattle.std.proofs.lemmas.List.{append-nil, take_more, map-append, length-map, length-take-le}
 use Rattle.dialect_types.specs.declared.types.TypeHandle.{TypeHandle}
-use Rattle.dialect_types.specs.Trees.{IntegerAttr, TypeTree, types_at, type_at, AllBelow}
+use Rattle.dialect_types.specs.declared.types.StructFields.{StructFields}
+use Rattle.dialect_types.specs.declared.types.TypeKind.{TypeKind}
+use Rattle.dialect_types.specs.declared.types.TypeKind.TheVariants.{Named}
+use Rattle.dialect_types.specs.Trees.{IntegerAttr, TypeTree, NamedStruct, types_at, type_at, type_trees, struct_of, structs_of, AllBelow, HasPartsBelow}
 pub use Rattle.support.proofs.KeepLaws.{keeps_same, keeps_more, keeps_then, keeps_appended, keeps_equal, keeps_extended}
 use Rattle.dialect_types.proofs.PrintedTypes.{reach}
-use Rattle.dialect_types.specs.Text.{attr_text, inner_type_text, comma_before, each_after, joined, truth_text, type_text, type_texts}
+use Rattle.dialect_types.specs.Text.{attr_text, body_text, struct_text, inner_type_text, comma_before, each_after, joined, truth_text, type_text, type_texts}
 
 -- ---- commas
 
@@ -39,7 +47,7 @@ AllBelow-at n [] i d h l = absurd (omega arith)
 AllBelow-at n (x ∷ xs) zero d h l = h.0
 AllBelow-at n (x ∷ xs) (suc i) d h l = AllBelow-at n xs i d h.1 (omega arith)
 
-AllBelow-more : (n m : ℕ) (xs : List TypeHandle) → n ≤ m → AllBelow n xs → AllBelow m xs
+pub AllBelow-more : (n m : ℕ) (xs : List TypeHandle) → n ≤ m → AllBelow n xs → AllBelow m xs
 AllBelow-more n m [] h p = tt
 AllBelow-more n m (x ∷ xs) h p = (omega (arith, p.0), AllBelow-more n m xs h p.1)
 
@@ -85,3 +93,40 @@ pub integer_printed : {E : Type 0} (r : Result (Unit {0}) E) (t : TypeTree) (v :
     → OnOk r (end ≡ o ++ attr_text (IntegerAttr t v))
 integer_printed (Ok done) t v o head number colon type end e1 e2 e3 e4 e5 = simp (e5, e4, e3, e2, e1, append_assoc)
 integer_printed (Err fault) t v o head number colon type end e1 e2 e3 e4 e5 = tt
+
+-- ---- lines of structs
+
+-- the line of one more type, where it is a struct with a name
+pub lines_step : (ts : List TypeTree) (ks : List TypeKind) (i : ℕ) (k : TypeKind) (start before after : List ℕ) → slice_get ks i ≡ Some k → before ≡ start ++ flat_map struct_text (filter_map (struct_of ts) (take i ks))
+    → after ≡ before ++ option_map_or struct_text (struct_of ts k) [] → after ≡ start ++ flat_map struct_text (filter_map (struct_of ts) (take (i + 1) ks))
+lines_step ts ks i k start before after at so_far line =
+    line ∙ ap (λ (x : List ℕ). x ++ option_map_or struct_text (struct_of ts k) []) so_far
+    ∙ append_assoc start (flat_map struct_text (filter_map (struct_of ts) (take i ks))) (option_map_or struct_text (struct_of ts k) [])
+    ∙ ap (λ (x : List ℕ). start ++ x) (sym (more ∙ ap (λ (x : List ℕ). flat_map struct_text (filter_map (struct_of ts) (take i ks)) ++ x) (last (struct_of ts k))))
+  where
+    last : (s : Option NamedStruct) → flat_map struct_text (cons_option s []) ≡ option_map_or struct_text s []
+    last None = refl
+    last (Some s) = append-nil (struct_text s)
+
+    more : flat_map struct_text (filter_map (struct_of ts) (take (i + 1) ks)) ≡ flat_map struct_text (filter_map (struct_of ts) (take i ks)) ++ flat_map struct_text (cons_option (struct_of ts k) [])
+    more =
+        ap (λ (xs : List TypeKind). flat_map struct_text (filter_map (struct_of ts) xs)) (take_next ks i k at)
+        ∙ ap (flat_map struct_text) (filter_map-append (struct_of ts) (take i ks) (k ∷ []))
+        ∙ flat_map-append struct_text (filter_map (struct_of ts) (take i ks)) (cons_option (struct_of ts k) [])
+
+-- all of them have been appended
+pub lines_all : (ks : List TypeKind) (n : ℕ) (start after : List ℕ) → n ≡ length ks → after ≡ start ++ flat_map struct_text (filter_map (struct_of (type_trees ks)) (take n ks)) → after ≡ start ++ flat_map struct_text (structs_of ks)
+lines_all ks n start after all printed =
+    printed ∙ ap (λ (xs : List TypeKind). start ++ flat_map struct_text (filter_map (struct_of (type_trees ks)) xs)) (ap (λ (k : ℕ). take k ks) all ∙ take-length ks)
+
+-- the pieces of a line, one after another
+pub line_printed : {E : Type 0} (r : Result (Unit {0}) E) (s : NamedStruct) (name o head named equal body end : List ℕ) → name ≡ s.name
+    → head ≡ o ++ codes "  llvm.struct @" → named ≡ head ++ name → equal ≡ named ++ codes " = " → body ≡ equal ++ body_text s.body → end ≡ (if is_ok r then body ++ codes "\n" else body)
+    → OnOk r (end ≡ o ++ struct_text s)
+line_printed (Ok done) s name o head named equal body end e0 e1 e2 e3 e4 e5 = simp (e5, e4, e3, e2, e1, e0, append_assoc)
+line_printed (Err fault) s name o head named equal body end e0 e1 e2 e3 e4 e5 = tt
+
+-- the fields of a struct are numbers of a store where they are earlier than the struct
+pub body_below : (n m : ℕ) (k : TypeKind) (name : List ℕ) (body : Option StructFields) → k ≡ Named name body → n < m → HasPartsBelow n k → IfSome body (λ (b : StructFields). AllBelow m b.types)
+body_below n m k name None is lt h = tt
+body_below n m k name (Some b) is lt h = AllBelow-more n m b.types (omega arith) (subst (HasPartsBelow n) is h)

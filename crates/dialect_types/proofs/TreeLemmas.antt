@@ -1,12 +1,13 @@
 -- Trees of types: a store that grows keeps them, a number's tree is that of its kind, and equal trees have equal numbers.
-use Rattle.std.proofs.Common.{◌≡◌, ◌<◌, ◌+◌, ℕ, zero, suc, List, [], ◌∷◌, ◌++◌, Some, length, slice_get, get_or, ap, sym, ◌∙◌, refl, arith, length-append, inl, inr, ◌⊎◌, subst}
+use Rattle.std.proofs.Common.{◌≡◌, ◌<◌, ◌+◌, ℕ, zero, suc, Option, List, [], ◌∷◌, ◌++◌, Some, length, slice_get, get_or, ap, sym, ◌∙◌, refl, arith, length-append, inl, inr, ◌⊎◌, subst}
 use Rattle.std.proofs.lemmas.Option.{slice_get-get_or, same_Some}
 use Rattle.std.proofs.Math.ListN.{get_or-append}
 use Rattle.dialect_types.specs.declared.types.TypeHandle.{TypeHandle}
+use Rattle.dialect_types.specs.declared.types.StructFields.{StructFields}
 use Rattle.dialect_types.specs.declared.types.TypeKind.{TypeKind}
-use Rattle.dialect_types.specs.declared.types.TypeKind.TheVariants.{Integer, Array, Vector, Struct, Func, Void}
+use Rattle.dialect_types.specs.declared.types.TypeKind.TheVariants.{Integer, Array, Vector, Struct, Named, Func, Void}
 use Rattle.support.specs.Interned.{Interned, IsDistinctList}
-use Rattle.dialect_types.specs.Trees.{TypeTree, VoidType, IntType, FunctionType, trees_after, type_at, types_at, type_tree, type_trees, AllBelow, HasPartsBelow, IsGrounded, IsDistinctAsTrees}
+use Rattle.dialect_types.specs.Trees.{TypeTree, VoidType, IntType, FunctionType, trees_after, type_at, types_at, type_tree, type_trees, AllBelow, HasPartsBelow, IsGrounded, IsOnceNamed, IsDistinctAsTrees}
 use Rattle.dialect_types.proofs.KeyLemmas.{same_handle}
 
 -- more types leave the trees of the earlier ones
@@ -42,7 +43,7 @@ abbrev pub AgreeBelow : (ts us : List TypeTree) → ℕ → Type 0
 AgreeBelow ts us n = (j : ℕ) → j < n → get_or ts j VoidType ≡ get_or us j VoidType
 
 -- and so are those of the parts of a kind below n
-same_parts : (ts us : List TypeTree) (n : ℕ) → AgreeBelow ts us n → (xs : List TypeHandle) → AllBelow n xs → types_at ts xs ≡ types_at us xs
+pub same_parts : (ts us : List TypeTree) (n : ℕ) → AgreeBelow ts us n → (xs : List TypeHandle) → AllBelow n xs → types_at ts xs ≡ types_at us xs
 same_parts ts us n same [] h = refl
 same_parts ts us n same (x ∷ xs) h = let e = same_parts ts us n same xs h.1 in let f = same x.0 h.0 in cc
 
@@ -86,7 +87,7 @@ pub void_tree : (ks : List TypeKind) → IsGrounded ks → (t : TypeHandle) → 
 void_tree ks ok t h = tree_of_kind ks ok t Void h
 
 -- a kind is known by its tree, where the trees of its parts are known
-same_lists : (ts : List TypeTree) (n m : ℕ) → ((a b : ℕ) → a < n → b < m → get_or ts a VoidType ≡ get_or ts b VoidType → a ≡ b) → (xs ys : List TypeHandle) → AllBelow n xs → AllBelow m ys → types_at ts xs ≡ types_at ts ys → xs ≡ ys
+pub same_lists : (ts : List TypeTree) (n m : ℕ) → ((a b : ℕ) → a < n → b < m → get_or ts a VoidType ≡ get_or ts b VoidType → a ≡ b) → (xs ys : List TypeHandle) → AllBelow n xs → AllBelow m ys → types_at ts xs ≡ types_at ts ys → xs ≡ ys
 same_lists ts n m known [] [] p q h = refl
 same_lists ts n m known [] (y ∷ ys) p q h = cc
 same_lists ts n m known (x ∷ xs) [] p q h = cc
@@ -95,31 +96,39 @@ same_lists ts n m known (x ∷ xs) (y ∷ ys) p q h =
     let rest = same_lists ts n m known xs ys p.1 q.1 (cc) in
     cc
 
-same_kinds : (ts : List TypeTree) (n m : ℕ) → ((a b : ℕ) → a < n → b < m → get_or ts a VoidType ≡ get_or ts b VoidType → a ≡ b) → (k l : TypeKind) → HasPartsBelow n k → HasPartsBelow m l → type_tree ts k ≡ type_tree ts l → k ≡ l
-same_kinds ts n m known (Func r xs c) (Func s ys d) p q h =
+-- two kinds are one where they are structs of one name
+abbrev IsOneStruct : TypeKind → TypeKind → Type 0
+IsOneStruct k l = (n : List ℕ) (b c : Option StructFields) → k ≡ Named n b → l ≡ Named n c → k ≡ l
+
+same_kinds : (ts : List TypeTree) (n m : ℕ) → ((a b : ℕ) → a < n → b < m → get_or ts a VoidType ≡ get_or ts b VoidType → a ≡ b) → (k l : TypeKind) → IsOneStruct k l → HasPartsBelow n k → HasPartsBelow m l → type_tree ts k ≡ type_tree ts l → k ≡ l
+same_kinds ts n m known (Func r xs c) (Func s ys d) one p q h =
     let e = same_handle r s (known r.0 s.0 p.0 q.0 (cc)) in
     let f = same_lists ts n m known xs ys p.1 q.1 (cc) in
     cc
-same_kinds ts n m known (Array t c) (Array u d) p q h = let e = same_handle t u (known t.0 u.0 p q (cc)) in cc
-same_kinds ts n m known (Vector t c k) (Vector u d l) p q h = let e = same_handle t u (known t.0 u.0 p q (cc)) in cc
-same_kinds ts n m known (Struct xs k) (Struct ys l) p q h = let e = same_lists ts n m known xs ys p q (cc) in cc
-same_kinds ts n m known k l p q h = grind arith
+same_kinds ts n m known (Array t c) (Array u d) one p q h = let e = same_handle t u (known t.0 u.0 p q (cc)) in cc
+same_kinds ts n m known (Vector t c k) (Vector u d l) one p q h = let e = same_handle t u (known t.0 u.0 p q (cc)) in cc
+same_kinds ts n m known (Named a b) (Named c d) one p q h = let e : a ≡ c = cc in one a b d refl (ap (λ (x : List ℕ). Named x d) (sym e))
+same_kinds ts n m known (Struct xs k) (Struct ys l) one p q h = let e = same_lists ts n m known xs ys p q (cc) in cc
+same_kinds ts n m known k l one p q h = grind arith
 
 -- equal trees have equal numbers, by the larger of the numbers
-by_size : (ks : List TypeKind) → IsGrounded ks → IsDistinctList ks → (size a b : ℕ) → a < size → b < size → a < length ks → b < length ks → get_or (type_trees ks) a VoidType ≡ get_or (type_trees ks) b VoidType → a ≡ b
-by_size ks ok apart zero a b p q within_a within_b h = absurd (omega arith)
-by_size ks ok apart (suc size) a b p q within_a within_b h =
+by_size : (ks : List TypeKind) → IsGrounded ks → IsOnceNamed ks → IsDistinctList ks → (size a b : ℕ) → a < size → b < size → a < length ks → b < length ks → get_or (type_trees ks) a VoidType ≡ get_or (type_trees ks) b VoidType → a ≡ b
+by_size ks ok once apart zero a b p q within_a within_b h = absurd (omega arith)
+by_size ks ok once apart (suc size) a b p q within_a within_b h =
     let k_at = slice_get-get_or ks a Void within_a in
     let l_at = slice_get-get_or ks b Void within_b in
     let k_parts = ok a (get_or ks a Void) k_at in
     let l_parts = ok b (get_or ks b Void) l_at in
     let k_tree = at_number [] ks a a (get_or ks a Void) (omega arith) k_at k_parts in
     let l_tree = at_number [] ks b b (get_or ks b Void) (omega arith) l_at l_parts in
-    let e = same_kinds (type_trees ks) a b (λ i j below_a below_b. by_size ks ok apart size i j (omega arith) (omega arith) (omega arith) (omega arith)) (get_or ks a Void) (get_or ks b Void) k_parts l_parts (sym k_tree ∙ h ∙ l_tree) in
+    let one : IsOneStruct (get_or ks a Void) (get_or ks b Void) = λ n c d k_is l_is.
+    let place = once a b n c d (k_at ∙ ap Some k_is) (l_at ∙ ap Some l_is) in
+    same_Some (get_or ks a Void) (get_or ks b Void) (sym k_at ∙ ap (slice_get ks) place ∙ l_at) in
+    let e = same_kinds (type_trees ks) a b (λ i j below_a below_b. by_size ks ok once apart size i j (omega arith) (omega arith) (omega arith) (omega arith)) (get_or ks a Void) (get_or ks b Void) one k_parts l_parts (sym k_tree ∙ h ∙ l_tree) in
     apart a b (get_or ks a Void) k_at (l_at ∙ ap Some (sym e))
 
-pub trees_distinct : (ks : List TypeKind) → IsGrounded ks → IsDistinctList ks → IsDistinctAsTrees ks
-trees_distinct ks ok apart a b within_a within_b h = by_size ks ok apart (a.0 + b.0 + 1) a.0 b.0 (omega arith) (omega arith) within_a within_b h
+pub trees_distinct : (ks : List TypeKind) → IsGrounded ks → IsOnceNamed ks → IsDistinctList ks → IsDistinctAsTrees ks
+trees_distinct ks ok once apart a b within_a within_b h = by_size ks ok once apart (a.0 + b.0 + 1) a.0 b.0 (omega arith) (omega arith) within_a within_b h
 
 -- ---- a store after a type was asked for
 

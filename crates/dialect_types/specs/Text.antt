@@ -1,5 +1,5 @@
 -- The dialect text of types and constants.
-use Rattle.std.specs.Prelude.{ℕ, zero, suc, Bool, true, false, List, [], ◌∷◌, ◌++◌, codes}
+use Rattle.std.specs.Prelude.{ℕ, zero, suc, Bool, true, false, Option, Some, None, List, [], ◌∷◌, ◌++◌, codes}
 use Rattle.std.specs.Fmt.{decimal}
 use Rattle.kinds.specs.declared.types.Floating.{Floating}
 use Rattle.kinds.specs.declared.types.Floating.TheVariants as F
@@ -8,7 +8,7 @@ use Rattle.kinds.specs.declared.types.VectorTypeKind.TheVariants as V
 use Rattle.kinds.specs.declared.types.StructLayout.{StructLayout}
 use Rattle.kinds.specs.declared.types.StructLayout.TheVariants as L
 pub use Rattle.support.specs.Appended.{Keeps}
-use Rattle.dialect_types.specs.Trees.{TypeTree, VoidType, IntType, PointerType, FloatingType, RefusedType, ArrayType, VectorType, StructType, NamedType, FunctionType, TypeTrees, NoTypes, ThenType, AttrTree, IntegerAttr}
+use Rattle.dialect_types.specs.Trees.{TypeTree, VoidType, IntType, PointerType, FloatingType, RefusedType, ArrayType, VectorType, StructType, NamedType, FunctionType, TypeTrees, NoTypes, ThenType, AttrTree, IntegerAttr, StructBody, NamedStruct}
 
 -- the word of a truth value
 abbrev pub truth_text : Bool → List ℕ
@@ -63,8 +63,7 @@ abbrev mutual
   type_text (ArrayType count t) = counted_text (codes "llvm.array [") count (type_text t)
   type_text (VectorType kind count t) = counted_text (vector_head kind) count (type_text t)
   type_text (StructType layout ts) = struct_head layout ++ joined (type_texts ts) ++ codes "}>"
-  -- no type of the dialect yet
-  type_text (NamedType name) = []
+  type_text (NamedType name) = codes "llvm.struct <@" ++ name ++ codes ">"
   type_text (FunctionType result params variadic) =
       codes "llvm.func <" ++ type_text result ++ codes " (" ++ joined (type_texts params) ++ codes ") variadic = " ++ truth_text variadic ++ codes ">"
 
@@ -72,6 +71,24 @@ abbrev mutual
   pub type_texts : TypeTrees → List (List ℕ)
   type_texts NoTypes = []
   type_texts (ThenType t ts) = type_text t ∷ type_texts ts
+
+-- ---- structs with names
+
+-- what a struct with a name has between its braces begins with
+abbrev pub body_head : StructLayout → List ℕ
+body_head L.Unpacked = codes "{"
+body_head L.Packed = codes "packed {"
+
+-- the fields of a struct, as they stand beside its name
+abbrev pub body_text : Option StructBody → List ℕ
+body_text None = codes "opaque"
+body_text (Some b) = body_head b.layout ++ joined (type_texts b.fields) ++ codes "}"
+
+-- the line of a struct in a module
+abbrev pub struct_text : NamedStruct → List ℕ
+struct_text s = codes "  llvm.struct @" ++ s.name ++ codes " = " ++ body_text s.body ++ codes "\n"
+
+-- ---- constants
 
 -- the type of an integer constant inside its text: `iW` for an integer type
 abbrev pub inner_type_text : TypeTree → List ℕ

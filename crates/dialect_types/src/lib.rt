@@ -6,6 +6,8 @@ pub mod attrs;
 pub mod identifier;
 pub mod legaliser;
 pub mod printing;
+pub mod struct_err;
+mod struct_names;
 pub mod taken;
 pub mod texts;
 pub mod type_store;

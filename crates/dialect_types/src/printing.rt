@@ -1,13 +1,17 @@
 //! The dialect text of types and constants.
 
-ghost use Rattle.std.specs.Prelude.{◌≡◌, ◌<◌, ◌≤◌, ◌+◌, ◌%◌, ◌++◌, codes, length, IfSome, OnErr, OnOk};
+ghost use Rattle.std.specs.Prelude.{◌≡◌, ◌<◌, ◌≤◌, ◌+◌, ◌%◌, [], ◌++◌, codes, length, slice_get, Some, IfSome, OnErr, OnOk};
+ghost use Rattle.std.specs.List.{flat_map};
+ghost use Rattle.std.specs.Option.{option_map, option_map_or};
 ghost use Rattle.std.specs.Fmt.{decimal};
-ghost use Rattle.dialect_types.specs.Trees.{type_at, types_at, type_trees, attr_tree, AllBelow, HasTypesBelow, IntegerAttr, StructType, FunctionType};
-ghost use Rattle.dialect_types.specs.Text.{Keeps, comma_before, counted_text, floating_text, inner_type_text, joined, struct_head, type_text, type_texts, attr_text, truth_text, vector_head};
+ghost use Rattle.dialect_types.specs.declared.types.TypeKind.{TypeKind};
+ghost use Rattle.dialect_types.specs.Trees.{type_at, types_at, type_trees, struct_of, structs_of, fields_of, attr_tree, AllBelow, HasTypesBelow, IntegerAttr, StructType, FunctionType};
+ghost use Rattle.dialect_types.specs.Text.{Keeps, comma_before, counted_text, floating_text, inner_type_text, joined, struct_head, type_text, type_texts, attr_text, body_head, body_text, struct_text, truth_text, vector_head};
 
 use crate::attrs::ConstAttr;
+use crate::identifier::Identifier;
 use crate::type_store::TypeStore;
-use crate::types::{TypeHandle, TypeKind};
+use crate::types::{StructFields, TypeHandle, TypeKind};
 use itoa::Buffer;
 use kinds::types::{Floating, StructLayout, VectorTypeKind};
 use std::alloc::AllocError;
@@ -194,6 +198,26 @@ fn struct_head(layout: StructLayout) -> &'static [u8]
     }
 }
 
+/// What the fields of a struct with a name begin with.
+fn body_head(layout: StructLayout) -> &'static [u8]
+    ensures { result.now ≡ body_head layout }
+{
+    match layout {
+        StructLayout::Unpacked => b"{",
+        StructLayout::Packed => b"packed {",
+    }
+}
+
+/// Appends the text of a struct with a name, as a type.
+fn append_named(name: &Identifier, out: &mut Vec<u8>) -> Result<(), AllocError>
+    ensures ok { OnOk result (out.new.items ≡ out.old.items ++ (codes "llvm.struct <@" ++ name.now ++ codes ">")) }
+    ensures kept { Keeps out.old.items out.new.items }
+{
+    out.extend_from_slice(b"llvm.struct <@")?;
+    out.extend_from_slice(name.as_str().as_bytes())?;
+    out.extend_from_slice(b">")
+}
+
 impl TypeStore {
     /// Appends the text of a type. Want of memory leaves `out` as it was.
     pub fn print_type(&self, ty: TypeHandle, out: &mut Vec<u8>) -> Result<(), AllocError>
@@ -227,6 +251,7 @@ impl TypeStore {
             TypeKind::Struct { fields, layout } => {
                 self.append_struct(*layout, fields.as_slice(), out)
             }
+            TypeKind::Named { name, .. } => append_named(name, out),
             TypeKind::Func {
                 result,
                 params,
@@ -304,6 +329,63 @@ impl TypeStore {
             self.append_type(*ty, out)?;
         }
         Ok(())
+    }
+
+    /// Appends the lines of the structs that have a name, or a front of them where memory is wanting.
+    pub fn append_structs(&self, out: &mut Vec<u8>) -> Result<(), AllocError>
+        ensures ok { OnOk result (out.new.items ≡ out.old.items ++ flat_map struct_text (structs_of self.now)) }
+        ensures kept { Keeps out.old.items out.new.items }
+    {
+        for t in 0..self.len() {
+            self.append_line(TypeHandle(t), out)?;
+        }
+        Ok(())
+    }
+
+    /// Appends the line of a type, where it is a struct with a name.
+    fn append_line(&self, ty: TypeHandle, out: &mut Vec<u8>) -> Result<(), AllocError>
+        requires { ty.0 < length self.now }
+        ensures ok { (k : TypeKind) → slice_get self.now ty.0 ≡ Some k → OnOk result (out.new.items ≡ out.old.items ++ option_map_or struct_text (struct_of (type_trees self.now) k) []) }
+        ensures kept { Keeps out.old.items out.new.items }
+    {
+        match self.kind(ty) {
+            TypeKind::Named { name, body } => self.append_struct_line(name, body, out),
+            _ => Ok(()),
+        }
+    }
+
+    /// Appends the line of a struct with a name.
+    fn append_struct_line(
+        &self,
+        name: &Identifier,
+        body: &Option<StructFields>,
+        out: &mut Vec<u8>,
+    ) -> Result<(), AllocError>
+        requires { IfSome body.now (λ b. AllBelow (length self.now) b.types) }
+        ensures ok { OnOk result (out.new.items ≡ out.old.items ++ struct_text (record { name = name.now; body = option_map (fields_of (type_trees self.now)) body.now })) }
+        ensures kept { Keeps out.old.items out.new.items }
+    {
+        out.extend_from_slice(b"  llvm.struct @")?;
+        out.extend_from_slice(name.as_str().as_bytes())?;
+        out.extend_from_slice(b" = ")?;
+        self.append_body(body, out)?;
+        out.extend_from_slice(b"\n")
+    }
+
+    /// Appends the fields of a struct, as they stand beside its name.
+    fn append_body(&self, body: &Option<StructFields>, out: &mut Vec<u8>) -> Result<(), AllocError>
+        requires { IfSome body.now (λ b. AllBelow (length self.now) b.types) }
+        ensures ok { OnOk result (out.new.items ≡ out.old.items ++ body_text (option_map (fields_of (type_trees self.now)) body.now)) }
+        ensures kept { Keeps out.old.items out.new.items }
+    {
+        match body {
+            None => out.extend_from_slice(b"opaque"),
+            Some(fields) => {
+                out.extend_from_slice(body_head(fields.layout))?;
+                self.append_types(fields.types.as_slice(), out)?;
+                out.extend_from_slice(b"}")
+            }
+        }
     }
 
     /// Appends the type of an integer constant as it stands inside the constant's text.

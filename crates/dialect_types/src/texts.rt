@@ -1,12 +1,33 @@
 //! Texts that are each kept once, in the order in which they came.
 
-ghost use Rattle.std.specs.Prelude.{◌≡◌, ◌<◌, [], Some, length, slice_get, take, IfOk, OnErr};
-ghost use Rattle.dialect_types.specs.Legalised.{IsPut};
+ghost use Rattle.std.specs.Prelude.{◌≡◌, ◌<◌, [], None, Some, nat_eq, length, slice_get, take, IfOk, IfSome, OnErr};
+ghost use Rattle.std.proofs.Common.{ap};
+ghost use Rattle.std.specs.Cmp.Lexicographic.{pointwise, bytes_decides, nat_list_eq_equiv};
+ghost use Rattle.std.specs.Hash as fed;
+ghost use Rattle.dialect_types.specs.Legalised.{IsIn, IsPut};
 
-use indexmap::IndexSet;
+use indexmap::{Equivalent, IndexSet};
 use std::alloc::{AllocError, Global};
 use std::marker::Model;
 use support::text::Text;
+
+/// A text that is looked for.
+#[derive(Clone, Copy, PartialEq, Eq, Hash)]
+struct Sought<'a> {
+    text: &'a str,
+}
+
+impl<'a> Equivalent<Text> for Sought<'a> {
+    ghost equivalent = { λ q. pointwise nat_eq q.text.now };
+
+    ghost respects_hash = { λ q k h. ap fed.str ((bytes_decides q.text.now k).0 h) };
+
+    ghost respects_eq = { λ q x y. nat_list_eq_equiv.congr q.text.now x y };
+
+    fn equivalent(&self, key: &Text) -> bool {
+        self.text == key.as_str()
+    }
+}
 
 /// Texts that are each kept once, seen as their list.
 #[derive(Drop)]
@@ -46,6 +67,14 @@ impl Texts {
     {
         let (at, new) = self.set.insert_full(text)?;
         if new { Ok(None) } else { Ok(Some(at)) }
+    }
+
+    /// The place of a text, where it is there.
+    pub fn find(&self, text: &str) -> Option<usize>
+        ensures found { IfSome result (λ at. slice_get self.now at ≡ Some text.now) }
+        ensures none { result ≡ None → ¬ (IsIn self.now text.now) }
+    {
+        self.set.get_index_of(Sought { text })
     }
 
     /// Keeps the first `len` texts.

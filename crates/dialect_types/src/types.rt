@@ -1,11 +1,19 @@
 //! Types, as a store keeps them.
 
+use crate::identifier::Identifier;
 use kinds::types::{Floating, StructLayout, VectorTypeKind};
 use support::items::Items;
 
 /// The number of a type in its store.
 #[derive(Clone, Copy, PartialEq, Eq, Hash, Debug, Drop)]
 pub struct TypeHandle(pub u32);
+
+/// The fields of a struct with a name, numbers of earlier types, and how they lie.
+#[derive(PartialEq, Eq, Hash, Drop)]
+pub struct StructFields {
+    pub types: Items<TypeHandle>,
+    pub layout: StructLayout,
+}
 
 /// A type, whose parts are numbers of earlier types: a line for each kind.
 #[derive(PartialEq, Eq, Hash, Drop)]
@@ -22,6 +30,11 @@ pub enum TypeKind {
     Struct {
         fields: Items<TypeHandle>,
         layout: StructLayout,
+    },
+    /// A struct with a name, of which a store holds one. Where its fields are not told it is opaque.
+    Named {
+        name: Identifier,
+        body: Option<StructFields>,
     },
     Func {
         result: TypeHandle,

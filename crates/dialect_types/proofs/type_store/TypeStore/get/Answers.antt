@@ -1,22 +1,29 @@
 -- What `type_store::TypeStore::get` owes besides what the check finds.
-use Rattle.dialect_types.proofs.KeyLemmas.{interned_kind}
-use Rattle.dialect_types.proofs.StoredLaws.{still_stored}
-use Rattle.dialect_types.proofs.TreeLemmas.{still_trees, asked_tree}
+use Rattle.dialect_types.proofs.StoredLaws.{whole_plain, kept_after, structs_after, tree_after}
 use Rattle.dialect_types.proofs.type_store.TypeStore.get.Goals as goal
 
-pub invariant_of-self-2 : goal.invariant_of-self-2
-invariant_of-self-2 c =
-    still_stored c.self.inside.kinds _ c.args.kind c.in_ok-at.at c.self.invariant (rw c.self.view_is c.requires.parts) (rw c.self.view_is c.requires.fit) (rw c.self.view_is c.requires.nesting)
-    (interned_kind _ _ _ _ c.in_ok-at.ensures.interned)
-
-pub returns-clause-interned : goal.returns-clause-interned
-returns-clause-interned c = rw (← c.self.view_is) (interned_kind _ _ _ _ c.in_ok-at.ensures.interned)
+pub invariant_of-self : goal.invariant_of-self
+invariant_of-self c =
+    whole_plain c.add_kind.result c.self.inside.kinds _ c.args.kind c.self.inside.depths.items _ c.self.inside.structs c.self.invariant c.requires.plain
+    (record {
+      parts = rw c.self.view_is c.requires.parts;
+      fit = rw c.self.view_is c.requires.fit;
+      kept = c.add_kind.ensures.kept;
+      long = c.add_kind.ensures.long;
+      few = c.add_kind.ensures.few;
+    })
+    c.add_kind.ensures.interned c.add_kind.ensures.err c.add_kind.ensures.noted
 
 pub returns-clause-tree : goal.returns-clause-tree
 returns-clause-tree c =
     rw (← c.self.view_is)
-    (asked_tree c.self.inside.kinds _ c.args.kind _ c.self.invariant.grounded (rw c.self.view_is c.requires.parts) (interned_kind _ _ _ _ c.in_ok-at.ensures.interned))
+    (tree_after c.add_kind.result c.self.inside.kinds _ c.args.kind c.self.invariant.stored.grounded (rw c.self.view_is c.requires.parts) c.add_kind.ensures.interned)
 
 pub returns-clause-kept : goal.returns-clause-kept
 returns-clause-kept c =
-    rw (← c.self.view_is) (still_trees c.self.inside.kinds _ c.args.kind c.in_ok-at.at (interned_kind _ _ _ _ c.in_ok-at.ensures.interned))
+    rw (← c.self.view_is) (kept_after c.add_kind.result c.self.inside.kinds _ c.args.kind c.add_kind.ensures.interned c.add_kind.ensures.err)
+
+pub returns-clause-structs : goal.returns-clause-structs
+returns-clause-structs c =
+    rw (← c.self.view_is)
+    (structs_after c.add_kind.result c.self.inside.kinds _ c.args.kind c.self.invariant.stored.grounded c.requires.plain c.add_kind.ensures.interned c.add_kind.ensures.err)
