@@ -7,6 +7,7 @@ pub mod InsertLemmas
 pub mod LinkLemmas
 pub mod ContextLemmas
 pub mod ListLemmas
+pub mod NestedLaws
 pub mod NewBlockLemmas
 pub mod ArgumentLemmas
 pub mod TestLemmas

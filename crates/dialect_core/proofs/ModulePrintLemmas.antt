@@ -7,8 +7,9 @@ use Rattle.std.specs.Option.{option_map, option_map_or, option_and_then}
 use Rattle.std.proofs.lemmas.Option.{none-some, same_Some, slice_get-get_or}
 use Rattle.support.proofs.ListLaws.{appended_twice}
 use Rattle.dialect_types.specs.declared.types.TypeHandle.{TypeHandle}
-use Rattle.dialect_types.specs.Trees.{TypeTree, type_at, type_trees}
-use Rattle.dialect_types.specs.Text.{type_text}
+use Rattle.dialect_types.specs.declared.types.TypeKind.{TypeKind}
+use Rattle.dialect_types.specs.Trees.{TypeTree, NamedStruct, type_at, type_trees, structs_of}
+use Rattle.dialect_types.specs.Text.{type_text, struct_text}
 use Rattle.dialect_core.specs.declared.numbers.OpRef.{OpRef}
 use Rattle.dialect_core.specs.declared.numbers.BlockRef.{BlockRef}
 use Rattle.dialect_core.specs.declared.linkage.LinkageAttr.{LinkageAttr}
@@ -22,7 +23,7 @@ use Rattle.dialect_core.specs.Data.{DialectModule, DialectBlock, op_at, block_of
 use Rattle.dialect_core.specs.Text.{option_text, op_text, label_text, block_text, body_text, linkage_text, llvm_name_text, func_head_text, func_text, module_text_by, module_text, value_number, block_number}
 use Rattle.dialect_core.proofs.CountLemmas.{flat_filter}
 use Rattle.dialect_core.proofs.NewBlockLemmas.{func}
-use Rattle.dialect_core.proofs.KeepLemmas.{five_texts, six_texts}
+use Rattle.dialect_core.proofs.KeepLemmas.{six_texts}
 use Rattle.dialect_core.proofs.PrintLemmas.{between}
 
 -- a function is there
@@ -92,19 +93,21 @@ module _ (values : Value → Option ℕ) (blocks : BlockRef → Option ℕ) (c :
 
   -- ---- modules
 
-  pub module_printed : (m : ℕ) (name : List ℕ) (ops : List OpRef) (start o1 o2 o3 o4 end : List ℕ) → name ≡ name_at c.ops m → ops ≡ held c m
-      → o1 ≡ start ++ codes "builtin.module @" → o2 ≡ o1 ++ name → o3 ≡ o2 ++ codes " {\n" → o4 ≡ o3 ++ flat_map (λ (o : OpRef). option_text (func_text values blocks) (func_in (type_trees c.types) c o)) ops → end ≡ o4 ++ codes "}\n"
-      → end ≡ start ++ module_text_by values blocks (data_of c m)
-  module_printed m name ops start o1 o2 o3 o4 end is_name is_ops e1 e2 e3 e4 e5 =
-      five_texts start o1 o2 o3 o4 end (codes "builtin.module @") name (codes " {\n") _ (codes "}\n") e1 e2 e3 e4 e5
-      ∙ ap (λ (n : List ℕ). start ++ (((((codes "builtin.module @") ++ n) ++ codes " {\n") ++ flat_map (λ (o : OpRef). option_text (func_text values blocks) (func_in (type_trees c.types) c o)) ops) ++ codes "}\n")) is_name
-      ∙ ap (λ (t : List ℕ). start ++ (((((codes "builtin.module @") ++ name_at c.ops m) ++ codes " {\n") ++ t) ++ codes "}\n"))
-      (ap (flat_map (λ (o : OpRef). option_text (func_text values blocks) (func_in (type_trees c.types) c o))) is_ops ∙ sym (flat_filter (func_in (type_trees c.types) c) (func_text values blocks) (held c m)))
+  pub module_printed : (m : ℕ) (name : List ℕ) (ops : List OpRef) (ks : List TypeKind) (start o1 o2 o3 o4 o5 end : List ℕ) → name ≡ name_at c.ops m → ops ≡ held c m → ks ≡ c.types
+      → o1 ≡ start ++ codes "builtin.module @" → o2 ≡ o1 ++ name → o3 ≡ o2 ++ codes " {\n" → o4 ≡ o3 ++ flat_map struct_text (structs_of ks)
+      → o5 ≡ o4 ++ flat_map (λ (o : OpRef). option_text (func_text values blocks) (func_in (type_trees c.types) c o)) ops → end ≡ o5 ++ codes "}\n"
+      → end ≡ start ++ module_text_by values blocks (structs_of c.types) (data_of c m)
+  module_printed m name ops ks start o1 o2 o3 o4 o5 end is_name is_ops is_types e1 e2 e3 e4 e5 e6 =
+      let named = e2 ∙ ap (λ (n : List ℕ). o1 ++ n) is_name in
+      let structs = e4 ∙ ap (λ (x : List TypeKind). o3 ++ flat_map struct_text (structs_of x)) is_types in
+      let funcs = e5 ∙ ap (λ (t : List ℕ). o4 ++ t) (ap (flat_map (λ (o : OpRef). option_text (func_text values blocks) (func_in (type_trees c.types) c o))) is_ops ∙ sym (flat_filter (func_in (type_trees c.types) c) (func_text values blocks) (held c m))) in
+      six_texts start o1 o2 o3 o4 o5 end (codes "builtin.module @") (name_at c.ops m) (codes " {\n") (flat_map struct_text (structs_of c.types)) (flat_map (func_text values blocks) (data_of c m).functions) (codes "}\n") e1 named e3 structs funcs e6
 
 -- the numbers are those of the module
-pub module_text_is : (values : Value → Option ℕ) (blocks : BlockRef → Option ℕ) (d : DialectModule) → ((q : Value) → values q ≡ value_number d q) → ((q : BlockRef) → blocks q ≡ block_number d q) → module_text_by values blocks d ≡ module_text d
-module_text_is values blocks d vs bs =
-    ap (λ (v : Value → Option ℕ). module_text_by v blocks d) (fun_ext vs) ∙ ap (λ (b : BlockRef → Option ℕ). module_text_by (value_number d) b d) (fun_ext bs)
+pub module_text_is : (values : Value → Option ℕ) (blocks : BlockRef → Option ℕ) (structs : List NamedStruct) (d : DialectModule) → ((q : Value) → values q ≡ value_number d q) → ((q : BlockRef) → blocks q ≡ block_number d q)
+    → module_text_by values blocks structs d ≡ module_text structs d
+module_text_is values blocks structs d vs bs =
+    ap (λ (v : Value → Option ℕ). module_text_by v blocks structs d) (fun_ext vs) ∙ ap (λ (b : BlockRef → Option ℕ). module_text_by (value_number d) b structs d) (fun_ext bs)
 
 -- the type of a function is there
 pub symbol_typed : (c : ContextData) (op : OpRef) (ty : TypeHandle) → IsTyped c → option_map (λ (s : Symbol). s.ty) (symbol_at c.ops op) ≡ Some ty → ty.0 < length c.types

@@ -7,6 +7,7 @@ pub mod Form
 pub mod Lending
 pub mod Links
 pub mod Lists
+pub mod Nested
 pub mod ValueMaps
 pub mod Numbering
 pub mod Text

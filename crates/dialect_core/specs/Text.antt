@@ -4,8 +4,8 @@ use Rattle.std.specs.List.{filter_map, flat_map}
 use Rattle.std.specs.Map.{lookup}
 use Rattle.std.specs.Option.{option_map}
 use Rattle.std.specs.Fmt.{decimal}
-use Rattle.dialect_types.specs.Trees.{TypeTree}
-use Rattle.dialect_types.specs.Text.{type_text, attr_text, joined}
+use Rattle.dialect_types.specs.Trees.{TypeTree, NamedStruct}
+use Rattle.dialect_types.specs.Text.{type_text, struct_text, attr_text, joined}
 use Rattle.dialect_core.specs.declared.numbers.BlockRef.{BlockRef}
 use Rattle.dialect_core.specs.declared.linkage.LinkageAttr.{LinkageAttr}
 use Rattle.dialect_core.specs.declared.linkage.LinkageAttr.TheVariants as L
@@ -220,9 +220,9 @@ module _ (values : Value → Option ℕ) (blocks : BlockRef → Option ℕ) wher
   abbrev pub func_text : Func → List ℕ
   func_text f = func_head_text f.name f.type f.linkage f.llvm_name ++ body_text f.blocks
 
-  abbrev pub module_text_by : DialectModule → List ℕ
-  module_text_by d = codes "builtin.module @" ++ d.name ++ codes " {\n" ++ flat_map func_text d.functions ++ codes "}\n"
+  abbrev pub module_text_by : List NamedStruct → DialectModule → List ℕ
+  module_text_by structs d = codes "builtin.module @" ++ d.name ++ codes " {\n" ++ flat_map struct_text structs ++ flat_map func_text d.functions ++ codes "}\n"
 
--- the text of a module
-abbrev pub module_text : DialectModule → List ℕ
-module_text d = module_text_by (value_number d) (block_number d) d
+-- the text of a module, beside the structs with names that its types may name
+abbrev pub module_text : List NamedStruct → DialectModule → List ℕ
+module_text structs d = module_text_by (value_number d) (block_number d) structs d

@@ -3,7 +3,7 @@
 ghost use Rattle.std.specs.Prelude.{◌≡◌, ◌<◌, ◌++◌, All, OnOk, length, map};
 ghost use Rattle.std.specs.Option.{option_copied};
 ghost use Rattle.std.specs.List.{flat_map, filter_map};
-ghost use Rattle.dialect_types.specs.Trees.{type_at, type_trees};
+ghost use Rattle.dialect_types.specs.Trees.{type_at, type_trees, structs_of};
 ghost use Rattle.dialect_types.specs.Text.{Keeps, joined};
 ghost use Rattle.dialect_core.specs.Data.{op_at, block_in, func_in, name_at, symbol_name_at, data_of, IsTyped};
 ghost use Rattle.dialect_core.specs.Numbering.{value_at, block_at};
@@ -320,7 +320,7 @@ fn print_funcs(
     Ok(())
 }
 
-/// Appends the text of a module by numbers of its values and blocks.
+/// Appends the text of a module by numbers of its values and blocks, with the structs with names of its context.
 fn print_numbered(
     ctx: &Context,
     numbers: &Numbering,
@@ -329,18 +329,19 @@ fn print_numbered(
 ) -> Result<(), AllocError>
     requires root { root.0.0 < length ctx.now.ops }
     requires typed { IsTyped ctx.now }
-    ensures ok { OnOk result (out.new.items ≡ out.old.items ++ module_text_by (value_at numbers.now) (block_at numbers.now) (data_of ctx.now root.0.0)) }
+    ensures ok { OnOk result (out.new.items ≡ out.old.items ++ module_text_by (value_at numbers.now) (block_at numbers.now) (structs_of ctx.now.types) (data_of ctx.now root.0.0)) }
     ensures kept { Keeps out.old.items out.new.items }
 {
     out.extend_from_slice(b"builtin.module @")?;
     out.extend_from_slice(name_of(ctx, root.0).as_bytes())?;
     out.extend_from_slice(b" {\n")?;
+    ctx.types().append_structs(out)?;
     let ops = ctx.held_ops(root.0)?;
     print_funcs(ctx, numbers, ops.as_slice(), out)?;
     out.extend_from_slice(b"}\n")
 }
 
-/// Appends the text of a module.
+/// Appends the text of a module, with the structs with names of its context.
 pub fn print_module(
     alloc: Global,
     ctx: &Context,
@@ -349,7 +350,7 @@ pub fn print_module(
 ) -> Result<(), AllocError>
     requires root { root.0.0 < length ctx.now.ops }
     requires typed { IsTyped ctx.now }
-    ensures ok { OnOk result (out.new.items ≡ out.old.items ++ module_text (data_of ctx.now root.0.0)) }
+    ensures ok { OnOk result (out.new.items ≡ out.old.items ++ module_text (structs_of ctx.now.types) (data_of ctx.now root.0.0)) }
     ensures kept { Keeps out.old.items out.new.items }
 {
     let numbers = number_module(alloc, ctx, root)?;

@@ -26,6 +26,7 @@ pub fn shape_of(kind: &TypeKind) -> Shape
         TypeKind::Array(..) => Shape::Made,
         TypeKind::Vector(..) => Shape::Made,
         TypeKind::Struct { .. } => Shape::Made,
+        TypeKind::Named { .. } => Shape::Named,
         TypeKind::Func { .. } => Shape::Function,
     }
 }
