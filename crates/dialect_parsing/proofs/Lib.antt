@@ -1,5 +1,6 @@
 -- The lemmas of the crate.
 pub mod NumberLaws
+pub mod SymbolLaws
 pub mod ReadingLaws
 pub mod PlainLaws
 pub mod PartLaws
@@ -8,4 +9,5 @@ pub mod TokenLaws
 pub mod StoreLaws
 pub mod SpellLaws
 pub mod NumberTexts
+pub mod NameTexts
 pub mod TextLaws

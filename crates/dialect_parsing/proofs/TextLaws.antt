@@ -14,13 +14,14 @@ use Rattle.kinds.specs.Fitting.{is_field, is_amx, is_made, is_array_of, is_vecto
 use Rattle.kinds.specs.declared.fitting.Shape.{Shape}
 use Rattle.kinds.specs.declared.types.VectorTypeKind.TheVariants as V
 use Rattle.kinds.specs.declared.types.StructLayout.TheVariants as L
-use Rattle.dialect_types.specs.Trees.{TypeTree, VoidType, IntType, PointerType, FloatingType, RefusedType, ArrayType, VectorType, StructType, NamedType, FunctionType, TypeTrees, NoTypes, ThenType}
+use Rattle.dialect_types.specs.Trees.{NamedStruct, TypeTree, VoidType, IntType, PointerType, FloatingType, RefusedType, ArrayType, VectorType, StructType, NamedType, FunctionType, TypeTrees, NoTypes, ThenType}
 use Rattle.dialect_parsing.specs.declared.symbol.Symbol.{Symbol}
 use Rattle.dialect_parsing.specs.declared.symbol.Symbol.TheVariants as S
 use Rattle.dialect_parsing.specs.Spelling.{written, listed, others, IsOfDialect, AreOfDialect, Spells}
 use Rattle.dialect_parsing.specs.Symbols.{symbol_of, symbols_of, with_first}
 use Rattle.dialect_parsing.specs.Tokens.{Text, begins_run, is_run_byte, is_sign}
 use Rattle.dialect_parsing.proofs.TokenLaws.{IsRun, run_said, sign_said}
+use Rattle.dialect_parsing.proofs.NameTexts.{AreSpelled, found_identifier, name_is, name_run}
 use Rattle.dialect_parsing.proofs.NumberTexts.{IsNumeral, numeral, digits_run, digit_run}
 
 -- ---- a token before others
@@ -112,71 +113,78 @@ count_small n s h = let small = first_of (nat_lt n (2 ^ 64)) (is_field s) (not (
 lanes_small : (n : ℕ) (s : Shape) → is_vector_of n s ≡ true → n < 2 ^ 64
 lanes_small n s h = let small = second_of (nat_le 1 n) (nat_lt n (2 ^ 32)) (is_array_of n s) (not (is_made s)) h in grind (arith, nat_tests)
 
-mutual
-  type_said : (t : TypeTree) → IsOfDialect t → (bs : Text) (ss : List Symbol) → begins_run bs ≡ false → symbols_of bs ≡ Some ss → symbols_of (type_text t ++ bs) ≡ Some (written t ss)
-  type_said VoidType fine bs ss ends h = word 108 (codes "lvm.void") bs S.Void ss refl refl ends h
-  type_said (IntType w) fine bs ss ends h =
-      let least = fine.0 in
-      let most = fine.1 in
-      let bits = bits_by w bs ss (numeral w (omega arith)) ends h in
-      word 98 (codes "uiltin.integer") (32 ∷ 105 ∷ decimal w ++ bs) S.Integer _ refl refl refl bits
-  type_said (PointerType n) fine bs ss ends h =
-      let close = sign 41 bs S.CloseParen ss refl refl refl h in
-      let number = number_by n (41 ∷ bs) _ (numeral n (omega arith)) refl close in
-      let open_ = sign 40 (decimal n ++ (41 ∷ bs)) S.OpenParen _ refl refl refl number in
-      ap symbols_of (ap (λ (x : Text). codes "llvm.ptr (" ++ x) (append_assoc (decimal n) (codes ")") bs))
-      ∙ word 108 (codes "lvm.ptr") (32 ∷ 40 ∷ decimal n ++ (41 ∷ bs)) S.Pointer _ refl refl refl open_
-  type_said (FloatingType of) fine bs ss ends h = floating of bs ss ends h
-  type_said (RefusedType of) fine bs ss ends h = absurd fine
-  type_said (ArrayType n t) fine bs ss ends h =
-      let count = counted_said n (type_text t) bs _ (count_small n (shape t) fine.0) (type_said t fine.1 (93 ∷ bs) _ refl (sign 93 bs S.CloseBracket ss refl refl refl h)) in
-      let open_ = sign 91 (count_text n (type_text t) bs) S.OpenBracket _ refl refl refl count in
-      ap symbols_of (counted_regroup (codes "llvm.array [") (decimal n) (type_text t) bs)
-      ∙ word 108 (codes "lvm.array") (32 ∷ 91 ∷ count_text n (type_text t) bs) S.Array _ refl refl refl open_
-  type_said (VectorType V.Fixed n t) fine bs ss ends h =
-      let count = counted_said n (type_text t) bs _ (lanes_small n (shape t) fine.0) (type_said t fine.1 (93 ∷ bs) _ refl (sign 93 bs S.CloseBracket ss refl refl refl h)) in
-      let open_ = sign 91 (count_text n (type_text t) bs) S.OpenBracket _ refl refl refl count in
-      ap symbols_of (counted_regroup (codes "llvm.vector [") (decimal n) (type_text t) bs)
-      ∙ word 108 (codes "lvm.vector") (32 ∷ 91 ∷ count_text n (type_text t) bs) S.Vector _ refl refl refl open_
-  type_said (VectorType V.Scalable n t) fine bs ss ends h =
-      let count = counted_said n (type_text t) bs _ (lanes_small n (shape t) fine.0) (type_said t fine.1 (93 ∷ bs) _ refl (sign 93 bs S.CloseBracket ss refl refl refl h)) in
-      let scale = word 118 (codes "scale") (32 ∷ count_text n (type_text t) bs) S.Vscale _ refl refl refl count in
-      let open_ = sign 91 (codes "vscale " ++ count_text n (type_text t) bs) S.OpenBracket _ refl refl refl scale in
-      ap symbols_of (counted_regroup (codes "llvm.vector [vscale ") (decimal n) (type_text t) bs)
-      ∙ word 108 (codes "lvm.vector") (codes " [vscale " ++ count_text n (type_text t) bs) S.Vector _ refl refl refl open_
-  type_said (StructType L.Unpacked ts) fine bs ss ends h =
-      let fields = sign 123 (joined (type_texts ts) ++ (codes "}>" ++ bs)) S.OpenBrace _ refl refl refl (params_said ts fine.1 (codes "}>" ++ bs) _ refl (fields_end bs ss h)) in
-      let less = sign 60 (fields_text ts bs) S.Less _ refl refl refl fields in
-      ap symbols_of (struct_regroup (codes "llvm.struct <{") (joined (type_texts ts)) bs)
-      ∙ word 108 (codes "lvm.struct") (32 ∷ 60 ∷ fields_text ts bs) S.Struct _ refl refl refl less
-  type_said (StructType L.Packed ts) fine bs ss ends h =
-      let fields = sign 123 (joined (type_texts ts) ++ (codes "}>" ++ bs)) S.OpenBrace _ refl refl refl (params_said ts fine.1 (codes "}>" ++ bs) _ refl (fields_end bs ss h)) in
-      let packed = word 112 (codes "acked") (32 ∷ fields_text ts bs) S.Packed _ refl refl refl fields in
-      let less = sign 60 (codes "packed " ++ fields_text ts bs) S.Less _ refl refl refl packed in
-      ap symbols_of (struct_regroup (codes "llvm.struct <packed {") (joined (type_texts ts)) bs)
-      ∙ word 108 (codes "lvm.struct") (codes " <packed " ++ fields_text ts bs) S.Struct _ refl refl refl less
-  type_said (NamedType name) fine bs ss ends h = absurd fine
-  type_said (FunctionType r ps v) fine bs ss ends h =
-      let end = codes ") variadic = " ++ (truth_text v ++ (codes ">" ++ bs)) in
-      let params = params_said ps fine.1 end _ refl (func_end v bs ss h) in
-      let parens = sign 40 (joined (type_texts ps) ++ end) S.OpenParen _ refl refl refl params in
-      let result = type_said r fine.0 (32 ∷ 40 ∷ joined (type_texts ps) ++ end) _ refl parens in
-      let less = sign 60 (type_text r ++ (32 ∷ 40 ∷ joined (type_texts ps) ++ end)) S.Less _ refl refl refl result in
-      ap symbols_of (regroup (codes "llvm.func <") (type_text r) (codes " (") (joined (type_texts ps)) (codes ") variadic = ") (truth_text v) (codes ">") bs)
-      ∙ word 108 (codes "lvm.func") (32 ∷ 60 ∷ type_text r ++ (32 ∷ 40 ∷ joined (type_texts ps) ++ end)) S.Func _ refl refl refl less
+module _ (structs : List NamedStruct) (spelled : AreSpelled structs) where
+  mutual
+    type_said : (t : TypeTree) → IsOfDialect structs t → (bs : Text) (ss : List Symbol) → begins_run bs ≡ false → symbols_of bs ≡ Some ss → symbols_of (type_text t ++ bs) ≡ Some (written t ss)
+    type_said VoidType fine bs ss ends h = word 108 (codes "lvm.void") bs S.Void ss refl refl ends h
+    type_said (IntType w) fine bs ss ends h =
+        let least = fine.0 in
+        let most = fine.1 in
+        let bits = bits_by w bs ss (numeral w (omega arith)) ends h in
+        word 98 (codes "uiltin.integer") (32 ∷ 105 ∷ decimal w ++ bs) S.Integer _ refl refl refl bits
+    type_said (PointerType n) fine bs ss ends h =
+        let close = sign 41 bs S.CloseParen ss refl refl refl h in
+        let number = number_by n (41 ∷ bs) _ (numeral n (omega arith)) refl close in
+        let open_ = sign 40 (decimal n ++ (41 ∷ bs)) S.OpenParen _ refl refl refl number in
+        ap symbols_of (ap (λ (x : Text). codes "llvm.ptr (" ++ x) (append_assoc (decimal n) (codes ")") bs))
+        ∙ word 108 (codes "lvm.ptr") (32 ∷ 40 ∷ decimal n ++ (41 ∷ bs)) S.Pointer _ refl refl refl open_
+    type_said (FloatingType of) fine bs ss ends h = floating of bs ss ends h
+    type_said (RefusedType of) fine bs ss ends h = absurd fine
+    type_said (ArrayType n t) fine bs ss ends h =
+        let count = counted_said n (type_text t) bs _ (count_small n (shape t) fine.0) (type_said t fine.1 (93 ∷ bs) _ refl (sign 93 bs S.CloseBracket ss refl refl refl h)) in
+        let open_ = sign 91 (count_text n (type_text t) bs) S.OpenBracket _ refl refl refl count in
+        ap symbols_of (counted_regroup (codes "llvm.array [") (decimal n) (type_text t) bs)
+        ∙ word 108 (codes "lvm.array") (32 ∷ 91 ∷ count_text n (type_text t) bs) S.Array _ refl refl refl open_
+    type_said (VectorType V.Fixed n t) fine bs ss ends h =
+        let count = counted_said n (type_text t) bs _ (lanes_small n (shape t) fine.0) (type_said t fine.1 (93 ∷ bs) _ refl (sign 93 bs S.CloseBracket ss refl refl refl h)) in
+        let open_ = sign 91 (count_text n (type_text t) bs) S.OpenBracket _ refl refl refl count in
+        ap symbols_of (counted_regroup (codes "llvm.vector [") (decimal n) (type_text t) bs)
+        ∙ word 108 (codes "lvm.vector") (32 ∷ 91 ∷ count_text n (type_text t) bs) S.Vector _ refl refl refl open_
+    type_said (VectorType V.Scalable n t) fine bs ss ends h =
+        let count = counted_said n (type_text t) bs _ (lanes_small n (shape t) fine.0) (type_said t fine.1 (93 ∷ bs) _ refl (sign 93 bs S.CloseBracket ss refl refl refl h)) in
+        let scale = word 118 (codes "scale") (32 ∷ count_text n (type_text t) bs) S.Vscale _ refl refl refl count in
+        let open_ = sign 91 (codes "vscale " ++ count_text n (type_text t) bs) S.OpenBracket _ refl refl refl scale in
+        ap symbols_of (counted_regroup (codes "llvm.vector [vscale ") (decimal n) (type_text t) bs)
+        ∙ word 108 (codes "lvm.vector") (codes " [vscale " ++ count_text n (type_text t) bs) S.Vector _ refl refl refl open_
+    type_said (StructType L.Unpacked ts) fine bs ss ends h =
+        let fields = sign 123 (joined (type_texts ts) ++ (codes "}>" ++ bs)) S.OpenBrace _ refl refl refl (params_said ts fine.1 (codes "}>" ++ bs) _ refl (fields_end bs ss h)) in
+        let less = sign 60 (fields_text ts bs) S.Less _ refl refl refl fields in
+        ap symbols_of (struct_regroup (codes "llvm.struct <{") (joined (type_texts ts)) bs)
+        ∙ word 108 (codes "lvm.struct") (32 ∷ 60 ∷ fields_text ts bs) S.Struct _ refl refl refl less
+    type_said (StructType L.Packed ts) fine bs ss ends h =
+        let fields = sign 123 (joined (type_texts ts) ++ (codes "}>" ++ bs)) S.OpenBrace _ refl refl refl (params_said ts fine.1 (codes "}>" ++ bs) _ refl (fields_end bs ss h)) in
+        let packed = word 112 (codes "acked") (32 ∷ fields_text ts bs) S.Packed _ refl refl refl fields in
+        let less = sign 60 (codes "packed " ++ fields_text ts bs) S.Less _ refl refl refl packed in
+        ap symbols_of (struct_regroup (codes "llvm.struct <packed {") (joined (type_texts ts)) bs)
+        ∙ word 108 (codes "lvm.struct") (codes " <packed " ++ fields_text ts bs) S.Struct _ refl refl refl less
+    type_said (NamedType name) fine bs ss ends h =
+        let id = found_identifier structs spelled name fine.0 fine.1 in
+        let close = sign 62 bs S.Greater ss refl refl refl h in
+        let said = word 64 name (62 ∷ bs) (S.Name name) _ (name_is name id) (name_run name id) refl close in
+        let less = sign 60 (64 ∷ name ++ (62 ∷ bs)) S.Less _ refl refl refl said in
+        ap symbols_of (ap (λ (x : Text). codes "llvm.struct <@" ++ x) (append_assoc name (codes ">") bs))
+        ∙ word 108 (codes "lvm.struct") (32 ∷ 60 ∷ 64 ∷ name ++ (62 ∷ bs)) S.Struct _ refl refl refl less
+    type_said (FunctionType r ps v) fine bs ss ends h =
+        let end = codes ") variadic = " ++ (truth_text v ++ (codes ">" ++ bs)) in
+        let params = params_said ps fine.1 end _ refl (func_end v bs ss h) in
+        let parens = sign 40 (joined (type_texts ps) ++ end) S.OpenParen _ refl refl refl params in
+        let result = type_said r fine.0 (32 ∷ 40 ∷ joined (type_texts ps) ++ end) _ refl parens in
+        let less = sign 60 (type_text r ++ (32 ∷ 40 ∷ joined (type_texts ps) ++ end)) S.Less _ refl refl refl result in
+        ap symbols_of (regroup (codes "llvm.func <") (type_text r) (codes " (") (joined (type_texts ps)) (codes ") variadic = ") (truth_text v) (codes ">") bs)
+        ∙ word 108 (codes "lvm.func") (32 ∷ 60 ∷ type_text r ++ (32 ∷ 40 ∷ joined (type_texts ps) ++ end)) S.Func _ refl refl refl less
 
-  params_said : (ts : TypeTrees) → AreOfDialect ts → (bs : Text) (ss : List Symbol) → begins_run bs ≡ false → symbols_of bs ≡ Some ss → symbols_of (joined (type_texts ts) ++ bs) ≡ Some (listed ts ss)
-  params_said NoTypes fine bs ss ends h = h
-  params_said (ThenType t ts) fine bs ss ends h =
-      ap symbols_of (append_assoc (type_text t) (each_after (type_texts ts)) bs)
-      ∙ type_said t fine.0 (each_after (type_texts ts) ++ bs) _ (after_ends ts bs ends) (others_said ts fine.1 bs ss ends h)
+    params_said : (ts : TypeTrees) → AreOfDialect structs ts → (bs : Text) (ss : List Symbol) → begins_run bs ≡ false → symbols_of bs ≡ Some ss → symbols_of (joined (type_texts ts) ++ bs) ≡ Some (listed ts ss)
+    params_said NoTypes fine bs ss ends h = h
+    params_said (ThenType t ts) fine bs ss ends h =
+        ap symbols_of (append_assoc (type_text t) (each_after (type_texts ts)) bs)
+        ∙ type_said t fine.0 (each_after (type_texts ts) ++ bs) _ (after_ends ts bs ends) (others_said ts fine.1 bs ss ends h)
 
-  others_said : (ts : TypeTrees) → AreOfDialect ts → (bs : Text) (ss : List Symbol) → begins_run bs ≡ false → symbols_of bs ≡ Some ss → symbols_of (each_after (type_texts ts) ++ bs) ≡ Some (others ts ss)
-  others_said NoTypes fine bs ss ends h = h
-  others_said (ThenType t ts) fine bs ss ends h =
-      let more = type_said t fine.0 (each_after (type_texts ts) ++ bs) _ (after_ends ts bs ends) (others_said ts fine.1 bs ss ends h) in
-      ap symbols_of (ap (λ (x : Text). 44 ∷ 32 ∷ x) (append_assoc (type_text t) (each_after (type_texts ts)) bs))
-      ∙ sign 44 (32 ∷ type_text t ++ (each_after (type_texts ts) ++ bs)) S.Comma _ refl refl refl more
+    others_said : (ts : TypeTrees) → AreOfDialect structs ts → (bs : Text) (ss : List Symbol) → begins_run bs ≡ false → symbols_of bs ≡ Some ss → symbols_of (each_after (type_texts ts) ++ bs) ≡ Some (others ts ss)
+    others_said NoTypes fine bs ss ends h = h
+    others_said (ThenType t ts) fine bs ss ends h =
+        let more = type_said t fine.0 (each_after (type_texts ts) ++ bs) _ (after_ends ts bs ends) (others_said ts fine.1 bs ss ends h) in
+        ap symbols_of (ap (λ (x : Text). 44 ∷ 32 ∷ x) (append_assoc (type_text t) (each_after (type_texts ts)) bs))
+        ∙ sign 44 (32 ∷ type_text t ++ (each_after (type_texts ts) ++ bs)) S.Comma _ refl refl refl more
 
-pub text_spells : (t : TypeTree) → IsOfDialect t → depth t ≤ 1000 → Spells (type_text t) t
-text_spells t fine fits = (ap symbols_of (sym (append-nil (type_text t))) ∙ type_said t fine [] [] refl refl, fine, fits)
+  pub text_spells : (t : TypeTree) → IsOfDialect structs t → depth t ≤ 1000 → Spells structs (type_text t) t
+  text_spells t fine fits = (ap symbols_of (sym (append-nil (type_text t))) ∙ type_said t fine [] [] refl refl, fine, fits)

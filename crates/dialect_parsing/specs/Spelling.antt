@@ -1,12 +1,13 @@
 -- What a type is written as, and the texts that spell it.
-use Rattle.std.specs.Prelude.{◌≡◌, ◌<◌, ◌≤◌, ◌^◌, true, List, [], ◌∷◌, ◌++◌, Some}
+use Rattle.std.specs.Prelude.{◌≡◌, ◌<◌, ◌≤◌, ◌^◌, true, List, [], ◌∷◌, ◌++◌, ℕ, Some}
 use Rattle.kinds.specs.declared.types.VectorTypeKind.{VectorTypeKind}
 use Rattle.kinds.specs.declared.types.VectorTypeKind.TheVariants as V
 use Rattle.kinds.specs.declared.types.StructLayout.{StructLayout}
 use Rattle.kinds.specs.declared.types.StructLayout.TheVariants as L
 use Rattle.kinds.specs.Types.{depth, shape}
 use Rattle.kinds.specs.Fitting.{is_field, is_array_of, is_vector_of}
-use Rattle.dialect_types.specs.Trees.{TypeTree, VoidType, IntType, PointerType, FloatingType, RefusedType, ArrayType, VectorType, StructType, NamedType, FunctionType, TypeTrees, NoTypes, ThenType}
+use Rattle.kinds.specs.Structs.{struct_in}
+use Rattle.dialect_types.specs.Trees.{NamedStruct, structs_of, TypeTree, VoidType, IntType, PointerType, FloatingType, RefusedType, ArrayType, VectorType, StructType, NamedType, FunctionType, TypeTrees, NoTypes, ThenType}
 use Rattle.dialect_types.specs.declared.types.TypeKind.{TypeKind}
 use Rattle.dialect_parsing.specs.declared.symbol.Symbol.{Symbol}
 use Rattle.dialect_parsing.specs.declared.symbol.Symbol.TheVariants as S
@@ -35,8 +36,7 @@ abbrev mutual
   written (ArrayType count t) ss = S.Array ∷ S.OpenBracket ∷ S.Number count ∷ S.Times ∷ written t (S.CloseBracket ∷ ss)
   written (VectorType kind count t) ss = S.Vector ∷ S.OpenBracket ∷ scaled kind (S.Number count ∷ S.Times ∷ written t (S.CloseBracket ∷ ss))
   written (StructType layout fields) ss = S.Struct ∷ S.Less ∷ laid layout (S.OpenBrace ∷ listed fields (S.CloseBrace ∷ S.Greater ∷ ss))
-  -- no type of the dialect yet
-  written (NamedType name) ss = ss
+  written (NamedType name) ss = S.Struct ∷ S.Less ∷ S.Name name ∷ S.Greater ∷ ss
   written (FunctionType result params variadic) ss =
       S.Func ∷ S.Less ∷ written result (S.OpenParen ∷ listed params (S.CloseParen ∷ S.Variadic ∷ S.Equals ∷ S.Truth variadic ∷ S.Greater ∷ ss))
 
@@ -55,30 +55,37 @@ abbrev pub AreFields : TypeTrees → Type 0
 AreFields NoTypes = Unit {0}
 AreFields (ThenType t ts) = (is_field (shape t) ≡ true) × AreFields ts
 
-abbrev mutual
-  -- A type that the dialect has: integers of 1 to 2^23 bits, pointers of an address space below 2^24, and what is made of
-  -- types that may make it.
-  pub IsOfDialect : TypeTree → Type 0
-  IsOfDialect VoidType = Unit {0}
-  IsOfDialect (IntType w) = (1 ≤ w) × (w ≤ 2 ^ 23)
-  IsOfDialect (PointerType space) = space < 2 ^ 24
-  IsOfDialect (FloatingType of) = Unit {0}
-  IsOfDialect (RefusedType of) = ⊥
-  IsOfDialect (ArrayType count t) = (is_array_of count (shape t) ≡ true) × IsOfDialect t
-  IsOfDialect (VectorType kind count t) = (is_vector_of count (shape t) ≡ true) × IsOfDialect t
-  IsOfDialect (StructType layout fields) = AreFields fields × AreOfDialect fields
-  IsOfDialect (NamedType name) = ⊥
-  IsOfDialect (FunctionType result params variadic) = IsOfDialect result × AreOfDialect params
+-- one of the structs has the name
+abbrev pub IsThere : List NamedStruct → List ℕ → Type 0
+IsThere structs name = (s : NamedStruct) × (struct_in structs name ≡ Some s)
 
-  pub AreOfDialect : TypeTrees → Type 0
-  AreOfDialect NoTypes = Unit {0}
-  AreOfDialect (ThenType t ts) = IsOfDialect t × AreOfDialect ts
+module _ (structs : List NamedStruct) where
+  abbrev mutual
+    -- A type that the dialect has: integers of 1 to 2^23 bits, pointers of an address space below 2^24, structs with the name
+    -- of one that there is, and what is made of types that may make it.
+    pub IsOfDialect : TypeTree → Type 0
+    IsOfDialect VoidType = Unit {0}
+    IsOfDialect (IntType w) = (1 ≤ w) × (w ≤ 2 ^ 23)
+    IsOfDialect (PointerType space) = space < 2 ^ 24
+    IsOfDialect (FloatingType of) = Unit {0}
+    IsOfDialect (RefusedType of) = ⊥
+    IsOfDialect (ArrayType count t) = (is_array_of count (shape t) ≡ true) × IsOfDialect t
+    IsOfDialect (VectorType kind count t) = (is_vector_of count (shape t) ≡ true) × IsOfDialect t
+    IsOfDialect (StructType layout fields) = AreFields fields × AreOfDialect fields
+    IsOfDialect (NamedType name) = IsThere structs name
+    IsOfDialect (FunctionType result params variadic) = IsOfDialect result × AreOfDialect params
 
--- the text spells the type: its tokens say what the type is written as, the dialect has the type, and it nests at most 1000 deep
-abbrev pub Spells : Text → TypeTree → Type 0
-Spells bytes t = (symbols_of bytes ≡ Some (written t [])) × IsOfDialect t × (depth t ≤ 1000)
+    pub AreOfDialect : TypeTrees → Type 0
+    AreOfDialect NoTypes = Unit {0}
+    AreOfDialect (ThenType t ts) = IsOfDialect t × AreOfDialect ts
 
--- a store that has the types that it had, and perhaps more
+  -- The text spells the type, where there are these structs with names: its tokens say what the type is written as, the
+  -- dialect has the type, and it nests at most 1000 deep.
+  abbrev pub Spells : Text → TypeTree → Type 0
+  Spells bytes t = (symbols_of bytes ≡ Some (written t [])) × IsOfDialect t × (depth t ≤ 1000)
+
+-- a store that has the types that it had, and perhaps more, and the same structs with names
 pub record Grows (old new : List TypeKind) : Type 0 where
   pub more : List TypeKind
   pub is : new ≡ old ++ more
+  pub structs : structs_of new ≡ structs_of old

@@ -2,11 +2,11 @@
 use Rattle.std.specs.Prelude.{true, false, ◌==◌, if◌then◌else◌, List, [], ◌∷◌, Option, Some, None, codes}
 use Rattle.std.specs.Option.{option_map, option_and_then, option_or}
 use Rattle.std.specs.Map.{lookup}
-use Rattle.std.specs.Str.{bytes_eq}
+use Rattle.std.specs.Str.{bytes_eq, is_utf8}
 use Rattle.kinds.specs.Names.{is_digit}
 use Rattle.kinds.specs.declared.types.Floating.TheVariants as F
 use Rattle.dialect_parsing.specs.declared.symbol.Symbol.{Symbol}
-use Rattle.dialect_parsing.specs.declared.symbol.Symbol.TheVariants.{Void, Integer, Pointer, Func, Array, Vector, Struct, Floating, Variadic, Truth, Vscale, Times, Packed, OpenParen, CloseParen, OpenBracket, CloseBracket, OpenBrace, CloseBrace, Less, Greater, Comma, Equals, Number, Bits}
+use Rattle.dialect_parsing.specs.declared.symbol.Symbol.TheVariants.{Void, Integer, Pointer, Func, Array, Vector, Struct, Floating, Variadic, Truth, Vscale, Times, Packed, OpenParen, CloseParen, OpenBracket, CloseBracket, OpenBrace, CloseBrace, Less, Greater, Comma, Equals, Number, Bits, Name}
 use Rattle.dialect_parsing.specs.Numbers.{number_of}
 use Rattle.dialect_parsing.specs.Tokens.{Text, tokens_of}
 
@@ -33,13 +33,18 @@ abbrev pub word_of : Text → Option Symbol
 word_of t =
     option_or (option_or (option_or (lookup (bytes_eq t) sign_rows) (lookup (bytes_eq t) head_rows)) (lookup (bytes_eq t) floating_rows)) (lookup (bytes_eq t) inner_rows)
 
--- what a token says: a number, `i` and a number, or a word or sign of types; none where it stands in no type
+-- a name, where it is UTF-8
+abbrev pub if_name : Text → Option Symbol
+if_name t = if is_utf8 t then Some (Name t) else None
+
+-- what a token says: a number, `i` and a number, `@` and a name, or a word or sign of types; none where it stands in no type
 abbrev pub symbol_of : Text → Option Symbol
 symbol_of [] = None
 symbol_of (b ∷ bs) =
     if is_digit b then option_map Number (number_of (b ∷ bs))
     else (if b == 105 then option_map Bits (number_of bs)
-    else word_of (b ∷ bs))
+    else (if b == 64 then if_name bs
+    else word_of (b ∷ bs)))
 
 -- one more at the front
 abbrev pub with_first : Option Symbol → Option (List Symbol) → Option (List Symbol)

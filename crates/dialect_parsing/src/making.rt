@@ -1,10 +1,10 @@
 //! Types with parts, in the store of their parts.
 
-ghost use Rattle.std.specs.Prelude.{◌≡◌, ◌<◌, ◌≤◌, ◌↔◌, List, Err, true, false, length, IfOk, IsTrue, All};
+ghost use Rattle.std.specs.Prelude.{◌≡◌, ◌<◌, ◌≤◌, ◌↔◌, List, None, Err, true, false, length, IfOk, IfSome, IsTrue, All};
 ghost use Rattle.kinds.specs.Types.{depth, depths, shape};
 ghost use Rattle.kinds.specs.Fitting.{is_field, is_array_of, is_vector_of};
-ghost use Rattle.dialect_types.specs.Trees.{TypeTree, ArrayType, VectorType, StructType, FunctionType, type_at, types_at, type_tree, type_trees, AllBelow, HasPartsBelow, HasFitParts};
-ghost use Rattle.dialect_parsing.specs.Spelling.{Grows, AreFields};
+ghost use Rattle.dialect_types.specs.Trees.{TypeTree, ArrayType, VectorType, StructType, NamedType, FunctionType, structs_of, is_named, type_at, types_at, type_tree, type_trees, AllBelow, HasPartsBelow, HasFitParts};
+ghost use Rattle.dialect_parsing.specs.Spelling.{Grows, AreFields, IsThere};
 ghost use Rattle.dialect_parsing.specs.declared.parse_err.Refused.TheVariants.{Syntax};
 
 use crate::parse_err::Refused;
@@ -22,6 +22,7 @@ pub fn made(types: &mut TypeStore, kind: TypeKind) -> Result<TypeHandle, Refused
     requires parts { HasPartsBelow (length types.old) kind }
     requires fit { HasFitParts (type_trees types.old) kind }
     requires nesting { depth (type_tree (type_trees types.old) kind) ≤ 1000 }
+    requires unnamed { is_named kind ≡ false }
     ensures within { IfOk result (λ h. h.0 < length types.new) }
     ensures tree { IfOk result (λ h. type_at (type_trees types.new) h ≡ type_tree (type_trees types.old) kind) }
     ensures err { result ≡ Err Syntax → ⊥ }
@@ -42,6 +43,7 @@ fn shape_of(kind: &TypeKind) -> Shape
         TypeKind::Array(..) => Shape::Made,
         TypeKind::Vector(..) => Shape::Made,
         TypeKind::Struct { .. } => Shape::Made,
+        TypeKind::Named { .. } => Shape::Named,
         TypeKind::Func { .. } => Shape::Function,
     }
 }
@@ -132,6 +134,17 @@ pub fn make_struct(
         return Err(Refused::Syntax);
     }
     made(types, TypeKind::Struct { fields, layout })
+}
+
+/// The number of the struct of a name, where the store holds one.
+pub fn named(types: &TypeStore, name: &str) -> Option<TypeHandle>
+    ensures found { IfSome result (λ h. (h.0 < length types.now) × (type_at (type_trees types.now) h ≡ NamedType name.now) × IsThere (structs_of types.now) name.now) }
+    ensures none { result ≡ None → IsThere (structs_of types.now) name.now → ⊥ }
+{
+    let ty = types.named(name)?;
+    // What the store says of the type is that its struct is there.
+    let _kind = types.kind(ty);
+    Some(ty)
 }
 
 /// The number of a function type.

@@ -14,7 +14,8 @@ pub enum ParseErr {
     /// there; where more tokens are wanted, it is that of the last one, or 0 if there is none.
     #[error("no type at byte {0}")]
     Syntax(u32),
-    /// There is no memory left, or the text has more than 2^32 - 1 bytes.
+    /// There is no memory left, or the text has more than 2^32 - 1 bytes, or the type nests too deep for a store, through
+    /// the fields of structs with names.
     #[error("out of memory")]
     NoMemory,
 }

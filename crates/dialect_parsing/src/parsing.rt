@@ -2,7 +2,7 @@
 
 ghost use Rattle.std.specs.Prelude.{◌≡◌, ◌<◌, ◌≤◌, ℕ, Err, IfOk, length};
 ghost use Rattle.std.specs.List.{All};
-ghost use Rattle.dialect_types.specs.Trees.{TypeTree, type_at, type_trees};
+ghost use Rattle.dialect_types.specs.Trees.{TypeTree, type_at, type_trees, structs_of};
 ghost use Rattle.dialect_types.specs.declared.types.TypeHandle.{TypeHandle};
 ghost use Rattle.dialect_parsing.specs.Spelling.{Grows, Spells};
 ghost use Rattle.dialect_parsing.specs.declared.parse_err.ParseErr.TheVariants.{Syntax};
@@ -24,20 +24,20 @@ fn place_of(places: &[u32], read: usize) -> u32
     }
 }
 
-/// The number of the type that a text spells, new or old. Where the text spells none, or memory is wanting, the store may
+/// The number of the type that a text spells, new or old; a struct with a name is one that the store holds. Where the text spells none, or memory is wanting, the store may
 /// have more types than before: parts that were read.
 pub fn parse_type(
     alloc: Global,
     types: &mut TypeStore,
     bytes: &[u8],
 ) -> Result<TypeHandle, ParseErr>
-    ensures ok { IfOk result (λ h. (h.0 < length types.new) × Spells bytes.now (type_at (type_trees types.new) h)) }
-    ensures err { (at : ℕ) → result ≡ Err (Syntax at) → (at ≤ length bytes.now) × ((t : TypeTree) → Spells bytes.now t → ⊥) }
+    ensures ok { IfOk result (λ h. (h.0 < length types.new) × Spells (structs_of types.old) bytes.now (type_at (type_trees types.new) h)) }
+    ensures err { (at : ℕ) → result ≡ Err (Syntax at) → (at ≤ length bytes.now) × ((t : TypeTree) → Spells (structs_of types.old) bytes.now t → ⊥) }
     ensures grows { Grows types.old types.new }
     ensures kept { (t : TypeHandle) → t.0 < length types.old → type_at (type_trees types.new) t ≡ type_at (type_trees types.old) t }
 {
     let found = symbols(alloc, bytes)?;
-    let mut reader = SymbolReader::new(found.symbols);
+    let mut reader = SymbolReader::new(found.symbols.as_slice());
     match read(alloc, types, &mut reader) {
         Ok(ty) => Ok(ty),
         Err(Refused::NoMemory) => Err(ParseErr::NoMemory),

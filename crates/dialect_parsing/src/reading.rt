@@ -1,14 +1,15 @@
 //! A type from what its tokens say.
 
-ghost use Rattle.std.specs.Prelude.{[], ◌≡◌, ◌<◌, ◌≤◌, ◌+◌, ◌∷◌, Err, true, length, IfOk, IfErr};
-ghost use Rattle.dialect_types.specs.Trees.{TypeTree, type_at, types_at, type_trees, AllBelow};
-ghost use Rattle.dialect_parsing.specs.Reading.{closes, IsRead, IsNoType, AreRead, AreNoTypes, IsCounted, IsNotCounted};
-ghost use Rattle.dialect_parsing.specs.Spelling.{Grows};
+ghost use Rattle.std.specs.Prelude.{[], ◌≡◌, ◌<◌, ◌≤◌, ◌+◌, ◌∷◌, List, Err, true, length, IfOk, IfErr};
+ghost use Rattle.dialect_types.specs.Trees.{TypeTree, type_at, types_at, type_trees, structs_of, AllBelow, NamedType};
+ghost use Rattle.dialect_parsing.specs.Reading.{closes, IsRead, IsNoType, AreRead, AreNoTypes, IsCounted, IsNotCounted, IsNoName};
+ghost use Rattle.dialect_parsing.specs.Spelling.{Grows, IsThere};
 ghost use Rattle.dialect_parsing.specs.declared.parse_err.Refused.TheVariants.{Syntax};
+ghost use Rattle.dialect_parsing.specs.declared.symbol.Symbol.{Symbol};
 ghost use Rattle.dialect_parsing.specs.declared.symbol.Symbol.TheVariants as S;
 
 use crate::heads::{count, expect, func_end, plain, struct_head, vector_head};
-use crate::making::{Counted, made, make_array, make_func, make_struct, make_vector};
+use crate::making::{Counted, made, make_array, make_func, make_struct, make_vector, named};
 use crate::parse_err::Refused;
 use crate::symbol::Symbol;
 use crate::symbols::SymbolReader;
@@ -30,8 +31,8 @@ fn read_type(
 ) -> Result<TypeHandle, Refused>
     requires { room ≤ 1000 }
     ensures within { IfOk result (λ h. h.0 < length types.new) }
-    ensures ok { IfOk result (λ h. IsRead room symbols.old (type_at (type_trees types.new) h) symbols.new) }
-    ensures err { result ≡ Err Syntax → IsNoType room symbols.old }
+    ensures ok { IfOk result (λ h. IsRead (structs_of types.old) room symbols.old (type_at (type_trees types.new) h) symbols.new) }
+    ensures err { result ≡ Err Syntax → IsNoType (structs_of types.old) room symbols.old }
     ensures grows { Grows types.old types.new }
 {
     let Some(first) = symbols.next() else {
@@ -62,13 +63,13 @@ fn counted(
 ) -> Result<Counted, Refused>
     requires { room < 1000 }
     ensures within { IfOk result (λ c. c.element.0 < length types.new) }
-    ensures ok { IfOk result (λ c. IsCounted room symbols.old c.count (type_at (type_trees types.new) c.element) symbols.new) }
-    ensures err { result ≡ Err Syntax → IsNotCounted room symbols.old }
+    ensures ok { IfOk result (λ c. IsCounted (structs_of types.old) room symbols.old c.count (type_at (type_trees types.new) c.element) symbols.new) }
+    ensures err { result ≡ Err Syntax → IsNotCounted (structs_of types.old) room symbols.old }
     ensures grows { Grows types.old types.new }
 {
     let count = count(symbols)?;
     let element = read_type(alloc, types, symbols, room)?;
-    expect(symbols, Symbol::CloseBracket)?;
+    expect(symbols, &Symbol::CloseBracket)?;
     Ok(Counted { count, element })
 }
 
@@ -82,11 +83,11 @@ fn array(
 ) -> Result<TypeHandle, Refused>
     requires { room < 1000 }
     ensures within { IfOk result (λ h. h.0 < length types.new) }
-    ensures ok { IfOk result (λ h. IsRead (1 + room) (S.Array ∷ symbols.old) (type_at (type_trees types.new) h) symbols.new) }
-    ensures err { result ≡ Err Syntax → IsNoType (1 + room) (S.Array ∷ symbols.old) }
+    ensures ok { IfOk result (λ h. IsRead (structs_of types.old) (1 + room) (S.Array ∷ symbols.old) (type_at (type_trees types.new) h) symbols.new) }
+    ensures err { result ≡ Err Syntax → IsNoType (structs_of types.old) (1 + room) (S.Array ∷ symbols.old) }
     ensures grows { Grows types.old types.new }
 {
-    expect(symbols, Symbol::OpenBracket)?;
+    expect(symbols, &Symbol::OpenBracket)?;
     let of = counted(alloc, types, symbols, room)?;
     make_array(types, of)
 }
@@ -101,13 +102,51 @@ fn vector(
 ) -> Result<TypeHandle, Refused>
     requires { room < 1000 }
     ensures within { IfOk result (λ h. h.0 < length types.new) }
-    ensures ok { IfOk result (λ h. IsRead (1 + room) (S.Vector ∷ symbols.old) (type_at (type_trees types.new) h) symbols.new) }
-    ensures err { result ≡ Err Syntax → IsNoType (1 + room) (S.Vector ∷ symbols.old) }
+    ensures ok { IfOk result (λ h. IsRead (structs_of types.old) (1 + room) (S.Vector ∷ symbols.old) (type_at (type_trees types.new) h) symbols.new) }
+    ensures err { result ≡ Err Syntax → IsNoType (structs_of types.old) (1 + room) (S.Vector ∷ symbols.old) }
     ensures grows { Grows types.old types.new }
 {
     let kind = vector_head(symbols)?;
     let of = counted(alloc, types, symbols, room)?;
     make_vector(types, of, kind)
+}
+
+/// Reads what stands behind the name of a struct, which is the one of that name that the store holds.
+fn named_struct(
+    types: &TypeStore,
+    symbols: &mut SymbolReader,
+    name: &str,
+) -> Result<TypeHandle, Refused>
+    ensures within { IfOk result (λ h. h.0 < length types.now) }
+    ensures ok { IfOk result (λ h. (symbols.old ≡ S.Greater ∷ symbols.new) × (type_at (type_trees types.now) h ≡ NamedType name.now) × IsThere (structs_of types.now) name.now) }
+    ensures err { IfErr result (λ _. IsThere (structs_of types.now) name.now → (ss : List Symbol) → symbols.old ≡ S.Greater ∷ ss → ⊥) }
+{
+    let Some(ty) = named(types, name) else {
+        return Err(Refused::Syntax);
+    };
+    expect(symbols, &Symbol::Greater)?;
+    Ok(ty)
+}
+
+/// Reads a struct without a name, of which the first two symbols were read.
+#[cycle(read_type)]
+fn literal(
+    alloc: Global,
+    types: &mut TypeStore,
+    symbols: &mut SymbolReader,
+    room: u32,
+) -> Result<TypeHandle, Refused>
+    requires room { room < 1000 }
+    requires unnamed { IsNoName symbols.old }
+    ensures within { IfOk result (λ h. h.0 < length types.new) }
+    ensures ok { IfOk result (λ h. IsRead (structs_of types.old) (1 + room) (S.Struct ∷ S.Less ∷ symbols.old) (type_at (type_trees types.new) h) symbols.new) }
+    ensures err { result ≡ Err Syntax → IsNoType (structs_of types.old) (1 + room) (S.Struct ∷ S.Less ∷ symbols.old) }
+    ensures grows { Grows types.old types.new }
+{
+    let layout = struct_head(symbols)?;
+    let fields = list(alloc, types, symbols, &Symbol::CloseBrace, room)?;
+    expect(symbols, &Symbol::Greater)?;
+    make_struct(types, fields, layout)
 }
 
 /// Reads a struct type, of which the first symbol was read.
@@ -120,14 +159,15 @@ fn structure(
 ) -> Result<TypeHandle, Refused>
     requires { room < 1000 }
     ensures within { IfOk result (λ h. h.0 < length types.new) }
-    ensures ok { IfOk result (λ h. IsRead (1 + room) (S.Struct ∷ symbols.old) (type_at (type_trees types.new) h) symbols.new) }
-    ensures err { result ≡ Err Syntax → IsNoType (1 + room) (S.Struct ∷ symbols.old) }
+    ensures ok { IfOk result (λ h. IsRead (structs_of types.old) (1 + room) (S.Struct ∷ symbols.old) (type_at (type_trees types.new) h) symbols.new) }
+    ensures err { result ≡ Err Syntax → IsNoType (structs_of types.old) (1 + room) (S.Struct ∷ symbols.old) }
     ensures grows { Grows types.old types.new }
 {
-    let layout = struct_head(symbols)?;
-    let fields = list(alloc, types, symbols, Symbol::CloseBrace, room)?;
-    expect(symbols, Symbol::Greater)?;
-    make_struct(types, fields, layout)
+    expect(symbols, &Symbol::Less)?;
+    match symbols.name() {
+        Some(name) => named_struct(types, symbols, name),
+        None => literal(alloc, types, symbols, room),
+    }
 }
 
 /// Reads a function type, of which the first symbol was read.
@@ -140,14 +180,14 @@ fn func(
 ) -> Result<TypeHandle, Refused>
     requires { room < 1000 }
     ensures within { IfOk result (λ h. h.0 < length types.new) }
-    ensures ok { IfOk result (λ h. IsRead (1 + room) (S.Func ∷ symbols.old) (type_at (type_trees types.new) h) symbols.new) }
-    ensures err { result ≡ Err Syntax → IsNoType (1 + room) (S.Func ∷ symbols.old) }
+    ensures ok { IfOk result (λ h. IsRead (structs_of types.old) (1 + room) (S.Func ∷ symbols.old) (type_at (type_trees types.new) h) symbols.new) }
+    ensures err { result ≡ Err Syntax → IsNoType (structs_of types.old) (1 + room) (S.Func ∷ symbols.old) }
     ensures grows { Grows types.old types.new }
 {
-    expect(symbols, Symbol::Less)?;
+    expect(symbols, &Symbol::Less)?;
     let returned = read_type(alloc, types, symbols, room)?;
-    expect(symbols, Symbol::OpenParen)?;
-    let params = list(alloc, types, symbols, Symbol::CloseParen, room)?;
+    expect(symbols, &Symbol::OpenParen)?;
+    let params = list(alloc, types, symbols, &Symbol::CloseParen, room)?;
     let variadic = func_end(symbols)?;
     make_func(types, returned, params, variadic)
 }
@@ -158,14 +198,14 @@ fn list(
     alloc: Global,
     types: &mut TypeStore,
     symbols: &mut SymbolReader,
-    close: Symbol,
+    close: &Symbol,
     room: u32,
 ) -> Result<Items<TypeHandle>, Refused>
     requires room { room < 1000 }
-    requires close { closes close ≡ true }
+    requires close { closes close.now ≡ true }
     ensures within { IfOk result (λ hs. AllBelow (length types.new) hs) }
-    ensures ok { IfOk result (λ hs. AreRead room close symbols.old (types_at (type_trees types.new) hs) symbols.new) }
-    ensures err { result ≡ Err Syntax → AreNoTypes room close symbols.old }
+    ensures ok { IfOk result (λ hs. AreRead (structs_of types.old) room close.now symbols.old (types_at (type_trees types.new) hs) symbols.new) }
+    ensures err { result ≡ Err Syntax → AreNoTypes (structs_of types.old) room close.now symbols.old }
     ensures grows { Grows types.old types.new }
 {
     let mut found = Items::new(alloc);
@@ -175,7 +215,7 @@ fn list(
     let first = read_type(alloc, types, symbols, room)?;
     found.push(first)?;
     while !symbols.skip(close) {
-        expect(symbols, Symbol::Comma)?;
+        expect(symbols, &Symbol::Comma)?;
         let next = read_type(alloc, types, symbols, room)?;
         found.push(next)?;
     }
@@ -200,8 +240,8 @@ pub fn read(
     symbols: &mut SymbolReader,
 ) -> Result<TypeHandle, Refused>
     ensures within { IfOk result (λ h. h.0 < length types.new) }
-    ensures ok { IfOk result (λ h. IsRead 1000 symbols.old (type_at (type_trees types.new) h) []) }
-    ensures err { result ≡ Err Syntax → (t : TypeTree) → IsRead 1000 symbols.old t [] → ⊥ }
+    ensures ok { IfOk result (λ h. IsRead (structs_of types.old) 1000 symbols.old (type_at (type_trees types.new) h) []) }
+    ensures err { result ≡ Err Syntax → (t : TypeTree) → IsRead (structs_of types.old) 1000 symbols.old t [] → ⊥ }
     ensures grows { Grows types.old types.new }
 {
     let ty = read_type(alloc, types, symbols, DEEPEST)?;

@@ -1,9 +1,10 @@
 //! What a token of a type's text says.
 
 use kinds::types::Floating;
+use support::text::Text;
 
-/// What a token of a type's text says: a word, a sign or a number.
-#[derive(Clone, Copy, PartialEq, Eq, Debug, Drop)]
+/// What a token of a type's text says: a word, a sign, a number or a name.
+#[derive(PartialEq, Eq, Debug, Drop)]
 pub enum Symbol {
     /// `llvm.void`
     Void,
@@ -55,4 +56,6 @@ pub enum Symbol {
     Number(u64),
     /// `i` and a number of bits.
     Bits(u64),
+    /// `@` and the name of a struct.
+    Name(Text),
 }

@@ -1,11 +1,13 @@
 //! The symbols of a text, one by one.
 
-ghost use Rattle.std.specs.Prelude.{◌≡◌, true, false, List, ◌≤◌, ◌<◌, ◌+◌, ◌∷◌, [], ℕ, None, Some, Err, length, take, drop, IfOk, MatchOption};
+ghost use Rattle.std.specs.Prelude.{◌≡◌, true, false, List, ◌≤◌, ◌<◌, ◌+◌, ◌∷◌, [], ℕ, None, Some, Err, length, take, drop, IfOk, IfSome, MatchOption};
 ghost use Rattle.std.specs.List.{All, prefix_len};
+ghost use Rattle.dialect_parsing.specs.Reading.{IsNoName};
 ghost use Rattle.dialect_parsing.specs.Symbols.{symbols_of};
 ghost use Rattle.dialect_parsing.specs.Tokens.{is_blank, is_sign, is_run_byte, token_len};
 ghost use Rattle.dialect_parsing.specs.declared.parse_err.ParseErr.TheVariants.{Syntax};
 ghost use Rattle.dialect_parsing.specs.declared.symbol.Symbol.{Symbol};
+ghost use Rattle.dialect_parsing.specs.declared.symbol.Symbol.TheVariants as S;
 
 use crate::numbers::is_digit;
 use crate::parse_err::ParseErr;
@@ -89,7 +91,7 @@ pub fn symbols(alloc: Global, bytes: &[u8]) -> Result<Found, ParseErr>
             at += 1;
             continue;
         }
-        let Some(symbol) = symbol_of(&rest[..len]) else {
+        let Some(symbol) = symbol_of(alloc, &rest[..len])? else {
             return Err(ParseErr::Syntax(at as u32));
         };
         symbols.push(symbol)?;
@@ -101,54 +103,74 @@ pub fn symbols(alloc: Global, bytes: &[u8]) -> Result<Found, ParseErr>
 
 /// Symbols of which some were read, seen as those that are left.
 #[derive(Drop)]
-pub struct SymbolReader {
-    all: Vec<Symbol>,
-    read: usize,
+pub struct SymbolReader<'a> {
+    left: &'a [Symbol],
+    /// How many there were.
+    all: usize,
 }
 
-impl Model for SymbolReader {
-    ghost use Rattle.std.specs.Prelude.{List, ◌≤◌, length, drop};
+impl<'a> Model for SymbolReader<'a> {
+    ghost use Rattle.std.specs.Prelude.{List};
     ghost use Rattle.dialect_parsing.specs.declared.symbol.Symbol.{Symbol};
 
     ghost Value = { List Symbol };
 
-    ghost view = { λ s. drop s.read s.all.items };
-
-    ghost invariant = { λ s. s.read ≤ length s.all.items };
+    ghost view = { λ s. s.left.now };
 }
 
-impl SymbolReader {
-    pub fn new(all: Vec<Symbol>) -> SymbolReader
-        ensures { result ≡ all.items }
+impl<'a> SymbolReader<'a> {
+    pub fn new(all: &'a [Symbol]) -> SymbolReader<'a>
+        ensures { result ≡ all.now }
     {
-        SymbolReader { all, read: 0 }
+        SymbolReader {
+            left: all,
+            all: all.len(),
+        }
     }
 
     /// How many symbols were read.
     pub fn count(&self) -> usize {
-        self.read
+        self.all.saturating_sub(self.left.len())
     }
 
     /// Reads the next symbol.
-    pub fn next(&mut self) -> Option<Symbol>
-        ensures { MatchOption result ((self.old ≡ []) × (self.new ≡ [])) (λ s. self.old ≡ s ∷ self.new) }
+    pub fn next(&mut self) -> Option<&'a Symbol>
+        ensures { MatchOption result ((self.old ≡ []) × (self.new ≡ [])) (λ s. self.old ≡ s.now ∷ self.new) }
     {
-        let symbol = *self.all.get(self.read)?;
-        self.read += 1;
-        Some(symbol)
+        match self.left {
+            [] => None,
+            [first, left @ ..] => {
+                self.left = left;
+                Some(first)
+            }
+        }
     }
 
     /// Reads the next symbol if it is this one.
-    pub fn skip(&mut self, symbol: Symbol) -> bool
-        ensures yes { result ≡ true → self.old ≡ symbol ∷ self.new }
-        ensures no { result ≡ false → (self.new ≡ self.old) × ((ss : List Symbol) → self.old ≡ symbol ∷ ss → ⊥) }
+    pub fn skip(&mut self, symbol: &Symbol) -> bool
+        ensures yes { result ≡ true → self.old ≡ symbol.now ∷ self.new }
+        ensures no { result ≡ false → (self.new ≡ self.old) × ((ss : List Symbol) → self.old ≡ symbol.now ∷ ss → ⊥) }
     {
-        match self.all.get(self.read) {
-            Some(next) if *next == symbol => {
-                self.read += 1;
+        match self.left {
+            [first, left @ ..] if *first == *symbol => {
+                self.left = left;
                 true
             }
             _ => false,
+        }
+    }
+
+    /// Reads the next symbol if it is a name.
+    pub fn name(&mut self) -> Option<&'a str>
+        ensures some { IfSome result (λ n. self.old ≡ S.Name n.now ∷ self.new) }
+        ensures none { result ≡ None → (self.new ≡ self.old) × IsNoName self.old }
+    {
+        match self.left {
+            [Symbol::Name(name), left @ ..] => {
+                self.left = left;
+                Some(name.as_str())
+            }
+            _ => None,
         }
     }
 }

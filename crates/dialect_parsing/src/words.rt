@@ -1,13 +1,16 @@
 //! What a token of a type's text says.
 
-ghost use Rattle.std.specs.Prelude.{◌≡◌};
+ghost use Rattle.std.specs.Prelude.{◌≡◌, IfOk};
 ghost use Rattle.std.specs.Map.{lookup};
 ghost use Rattle.std.specs.Str.{bytes_eq};
-ghost use Rattle.dialect_parsing.specs.Symbols.{symbol_of, word_of, head_rows, floating_rows, inner_rows, sign_rows};
+ghost use Rattle.dialect_parsing.specs.Symbols.{symbol_of, word_of, if_name, head_rows, floating_rows, inner_rows, sign_rows};
 
 use crate::numbers::{is_digit, number};
 use crate::symbol::Symbol;
 use kinds::types::Floating;
+use std::alloc::{AllocError, Global};
+use std::str;
+use support::text::Text;
 
 /// What a word that a type begins with says.
 fn head(text: &[u8]) -> Option<Symbol>
@@ -107,19 +110,31 @@ fn word(text: &[u8]) -> Option<Symbol>
     sign(text).or(head(text)).or(floating(text)).or(inner(text))
 }
 
+/// What a name says.
+fn name(alloc: Global, text: &[u8]) -> Result<Option<Symbol>, AllocError>
+    ensures { IfOk result (λ s. s ≡ if_name text.now) }
+{
+    match str::from_utf8(text) {
+        Ok(name) => Ok(Some(Symbol::Name(Text::copy(alloc, name)?))),
+        Err(_) => Ok(None),
+    }
+}
+
 /// What a token says, and nothing where it stands in no type.
-pub fn symbol_of(text: &[u8]) -> Option<Symbol>
-    ensures { result ≡ symbol_of text.now }
+pub fn symbol_of(alloc: Global, text: &[u8]) -> Result<Option<Symbol>, AllocError>
+    ensures { IfOk result (λ s. s ≡ symbol_of text.now) }
 {
     match text {
-        [] => None,
-        [first, digits @ ..] => {
+        [] => Ok(None),
+        [first, behind @ ..] => {
             if is_digit(*first) {
-                number(text).map(Symbol::Number)
+                Ok(number(text).map(Symbol::Number))
             } else if *first == b'i' {
-                number(digits).map(Symbol::Bits)
+                Ok(number(behind).map(Symbol::Bits))
+            } else if *first == b'@' {
+                name(alloc, behind)
             } else {
-                word(text)
+                Ok(word(text))
             }
         }
     }

@@ -17,7 +17,7 @@ returns-in_default-clause-err c at e =
       | else-len-eq0-via-then-len-eq0+else-is_blank w ↦ λ z. search rules
       | else-len-eq0-via-else-len-eq0 w ↦ λ z. absurd (omega arith)
     ] in
-    let is : symbol_of (take n (drop here bytes)) ≡ None = ap (λ (x : List ℕ). symbol_of (take n x)) (sym c.split_at.ensures.back) ∙ sym c.symbol_of.ensures ∙ c.in_default.is in
+    let is : symbol_of (take n (drop here bytes)) ≡ None = ap (λ (x : List ℕ). symbol_of (take n x)) (sym c.split_at.ensures.back) ∙ sym c.in_ok-symbol.ensures ∙ c.in_default.is in
     let l = c.loop-at-test.true in
     (let same : here ≡ at = cc in omega arith, said_none bytes bytes here n c.loop-at.symbols.items l len blank is c.loop-at.invariant.so_far)
 
@@ -31,7 +31,7 @@ loop-at-preserved c =
       | else-len-eq0-via-then-len-eq0+else-is_blank w ↦ λ z. search rules
       | else-len-eq0-via-else-len-eq0 w ↦ λ z. absurd (omega arith)
     ] in
-    let is : symbol_of (take n (drop here bytes)) ≡ Some c.in-Some.symbol = ap (λ (x : List ℕ). symbol_of (take n x)) (sym c.split_at.ensures.back) ∙ sym c.symbol_of.ensures ∙ c.in-Some.is in
+    let is : symbol_of (take n (drop here bytes)) ≡ Some c.in-Some.symbol = ap (λ (x : List ℕ). symbol_of (take n x)) (sym c.split_at.ensures.back) ∙ sym c.in_ok-symbol.ensures ∙ c.in-Some.is in
     let l = c.loop-at-test.true in
     record {
       so_far = rw c.in_ok-push.ensures.items (said_more bytes bytes here n c.loop-at.symbols.items c.in-Some.symbol l len blank is c.loop-at.invariant.so_far);
