@@ -1,73 +1,23 @@
 -- Entries of functions with a body: their symbols, their bodies, and that a module without intrinsics leaves none out.
-use Rattle.std.proofs.Common.{ℕ, suc, ◌≡◌, refl, sym, ◌∙◌, ap, subst, Bool, true, false, ◌&&◌, not, if◌then◌else◌, List, [], ◌∷◌, Some, None, map, filter, length, nat_lt, All, arith}
+use Rattle.std.proofs.Common.{ℕ, suc, ◌≡◌, refl, sym, ◌∙◌, ap, subst, Bool, true, false, not, if◌then◌else◌, List, [], ◌∷◌, Some, None, map, filter, length, nat_lt, All, arith}
 use Rattle.std.proofs.lemmas.Bool.{lt-ltb}
 use Rattle.std.proofs.lemmas.List.Elements.{All-head, All-tail}
 use Rattle.kinds.specs.Names.{is_intrinsic_name}
-use Rattle.kinds.specs.Types.{TypeTree, ArrayType, VectorType, StructType, NamedType, FunctionType, TypeTrees, NoTypes, ThenType, shape, types_list}
-use Rattle.kinds.specs.Fitting.{is_held, is_field, is_array_of, is_vector_of}
-use Rattle.kinds.specs.Held.{is_void, throughout, each_throughout, IsHeld, IsHeldResult, IsHeldSignature}
-use Rattle.kinds.proofs.TypeLaws.{and_left, and_right}
-use Rattle.kinds.proofs.HeldLaws.{void_is, held_throughout, held_result_own}
+use Rattle.kinds.specs.Types.{TypeTree}
 use Rattle.llvm_core.specs.Data as L
 use Rattle.llvm_core.specs.Data.{ModuleData}
-use Rattle.meaning.specs.Terms.{Match, rename_type, rename_types}
+use Rattle.meaning.specs.Terms.{Match, rename_type}
 use Rattle.meaning.specs.Code.{Body, Entry, FunctionSymbol, External, SameBody, SameBodies, IsDistinctNames, names_of, rename_symbol}
 use Rattle.meaning.specs.Setting.{Setting}
 use Rattle.meaning.specs.Llvm as Llvm
 use Rattle.meaning.specs.Examples.{same_places}
+use Rattle.meaning.proofs.RenamedLaws.{names_stay}
 
 -- ---- types under a match
 
 -- the match that leaves all where it is renames no struct
-mutual
-  pub type_stays : (t : TypeTree) → rename_type same_places t ≡ t
-  type_stays (FunctionType r ps v) = cc (type_stays r, types_stay ps)
-  type_stays (ArrayType n t) = cc (type_stays t)
-  type_stays (VectorType k n t) = cc (type_stays t)
-  type_stays (StructType l ts) = cc (types_stay ts)
-  type_stays t = refl
-
-  types_stay : (ts : TypeTrees) → rename_types same_places ts ≡ ts
-  types_stay NoTypes = refl
-  types_stay (ThenType t ts) = cc (type_stays t, types_stay ts)
-
--- no match renames anything in a type that is translated: it holds no struct with a name
-mutual
-  throughout_stays : (match : Match) (t : TypeTree) → throughout is_held t ≡ true → rename_type match t ≡ t
-  throughout_stays match (ArrayType n t) h = cc (throughout_stays match t (and_right (is_array_of n (shape t)) (throughout is_held t) h))
-  throughout_stays match (VectorType k n t) h = cc (throughout_stays match t (and_right (is_vector_of n (shape t)) (throughout is_held t) h))
-  throughout_stays match (StructType l ts) h = cc (fields_stay match ts h)
-  throughout_stays match (NamedType n) h = cc
-  throughout_stays match (FunctionType r ps v) h = cc
-  throughout_stays match t h = refl
-
-  fields_stay : (match : Match) (ts : TypeTrees) → each_throughout is_held ts ≡ true → rename_types match ts ≡ ts
-  fields_stay match NoTypes h = refl
-  fields_stay match (ThenType t ts) h =
-      let first = and_left (is_field (shape t) && throughout is_held t) (each_throughout is_held ts) h in
-      let rest = and_right (is_field (shape t) && throughout is_held t) (each_throughout is_held ts) h in
-      cc (throughout_stays match t (and_right (is_field (shape t)) (throughout is_held t) first), fields_stay match ts rest)
-
-pub held_stays : (match : Match) (t : TypeTree) → IsHeld t → rename_type match t ≡ t
-held_stays match t h = throughout_stays match t (held_throughout t h)
-
-pub held_result_stays : (match : Match) (t : TypeTree) → IsHeldResult t → rename_type match t ≡ t
-held_result_stays match t h = by (is_void t) refl
-  where
-    by : (v : Bool) → is_void t ≡ v → rename_type match t ≡ t
-    by true is = let e = void_is t is in cc
-    by false is = held_stays match t (held_result_own t h is)
-
-params_stay : (match : Match) (ts : TypeTrees) → All IsHeld (types_list ts) → rename_types match ts ≡ ts
-params_stay match NoTypes h = refl
-params_stay match (ThenType t ts) h = cc (held_stays match t (All-head IsHeld t (types_list ts) h), params_stay match ts (All-tail IsHeld t (types_list ts) h))
-
--- nor in the type of a function that is translated
-pub signature_stays : (match : Match) (t : TypeTree) → IsHeldSignature t → rename_type match t ≡ t
-signature_stays match t h =
-    let r = held_result_stays match h.result h.returns in
-    let ps = params_stay match h.params h.takes in
-    ap (rename_type match) h.is ∙ cc (r, ps) ∙ sym h.is
+pub type_stays : (t : TypeTree) → rename_type same_places t ≡ t
+type_stays t = names_stay same_places (λ n. refl) t
 
 -- ---- symbols and bodies
 

@@ -16,5 +16,8 @@ pub mod ConstantRows
 pub mod ShapeExample
 pub mod WovenExample
 pub mod MixedExample
+pub mod RenamedLaws
 pub mod EntryLaws
 pub mod OwnValueLaws
+pub mod RenamedRuns
+pub mod RenamedCode

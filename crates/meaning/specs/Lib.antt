@@ -4,6 +4,7 @@ pub mod Machine
 pub mod Setting
 pub mod Code
 pub mod Llvm
+pub mod Renamed
 pub mod Dialect
 pub mod Pairs
 pub mod Shape

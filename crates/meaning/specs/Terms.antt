@@ -5,7 +5,8 @@ use Rattle.kinds.specs.declared.op.Op.{Op}
 use Rattle.kinds.specs.declared.rules.Family.{Family}
 use Rattle.kinds.specs.declared.rules.Family.TheVariants.{Shows, Builds}
 use Rattle.kinds.specs.Table.{rule_of}
-use Rattle.kinds.specs.Types.{TypeTree, VoidType, IntType, PointerType, FloatingType, RefusedType, ArrayType, VectorType, StructType, NamedType, FunctionType, TypeTrees, NoTypes, ThenType}
+use Rattle.kinds.specs.Types.{TypeTree, TypeTrees}
+use Rattle.kinds.specs.Structs.{renamed, renamed_all}
 
 -- ---- terms
 
@@ -98,22 +99,12 @@ pub record Match : Type 0 where
   pub block : List ℕ → ℕ → ℕ
   pub struct : List ℕ → List ℕ
 
-abbrev mutual
-  pub rename_type : Match → TypeTree → TypeTree
-  rename_type match VoidType = VoidType
-  rename_type match (IntType w) = IntType w
-  rename_type match (PointerType space) = PointerType space
-  rename_type match (FloatingType of) = FloatingType of
-  rename_type match (RefusedType of) = RefusedType of
-  rename_type match (ArrayType count t) = ArrayType count (rename_type match t)
-  rename_type match (VectorType kind count t) = VectorType kind count (rename_type match t)
-  rename_type match (StructType layout ts) = StructType layout (rename_types match ts)
-  rename_type match (NamedType name) = NamedType (match.struct name)
-  rename_type match (FunctionType r ps v) = FunctionType (rename_type match r) (rename_types match ps) v
+-- a type with each struct that it names under the name that the match gives it
+abbrev pub rename_type : Match → TypeTree → TypeTree
+rename_type match t = renamed match.struct t
 
-  pub rename_types : Match → TypeTrees → TypeTrees
-  rename_types match NoTypes = NoTypes
-  rename_types match (ThenType t ts) = ThenType (rename_type match t) (rename_types match ts)
+abbrev pub rename_types : Match → TypeTrees → TypeTrees
+rename_types match ts = renamed_all match.struct ts
 
 abbrev mutual
   pub rename : Match → Term → Term
