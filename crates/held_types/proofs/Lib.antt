@@ -1,0 +1,5 @@
+-- The lemmas of the crate.
+pub mod TableLaws
+pub mod WalkLaws
+pub mod InsideLaws
+pub mod ValueLaws

@@ -1,0 +1,35 @@
+-- What the values of a module hold: types for which the dialect has none, and structs with a name.
+use Rattle.std.specs.Prelude.{ℕ, ◌≡◌, List, Some, slice_get}
+use Rattle.kinds.specs.declared.types.OtherType.{OtherType}
+use Rattle.kinds.specs.Types.{TypeTree, RefusedType, NamedType}
+use Rattle.kinds.specs.Structs.{Struct, Holds, struct_in}
+use Rattle.llvm_core.specs.declared.numbers.LLVMStruct.{LLVMStruct}
+use Rattle.llvm_core.specs.Data.{Function, ModuleData}
+use Rattle.llvm_core.specs.Form.{value_types}
+
+-- a type of what a function of the module returns or takes, or of the result of one of its instructions, is that one or holds it,
+-- through the fields of structs too
+pub record HasTypeWith (d : ModuleData) (u : TypeTree) : Type 0 where
+  pub place : ℕ
+  pub f : Function
+  pub at : slice_get d.functions place ≡ Some f
+  pub index : ℕ
+  pub type : TypeTree
+  pub here : slice_get (value_types f) index ≡ Some type
+  pub holds : Holds d.structs u type
+
+-- a module that is translated: no value's type is or holds one for which the dialect has none
+abbrev pub AreHeld : ModuleData → Type 0
+AreHeld d = (of : OtherType) → ¬ HasTypeWith d (RefusedType of)
+
+-- the number is that of a struct of the name, the first one where there are more
+pub record IsStructOf (d : ModuleData) (name : List ℕ) (n : LLVMStruct) : Type 0 where
+  pub struct : Struct
+  pub at : slice_get d.structs n.0 ≡ Some struct
+  pub named : struct.name ≡ name
+  pub first : struct_in d.structs name ≡ Some struct
+
+-- the numbers are those of the structs that types of values hold
+pub record AreHeldStructs (d : ModuleData) (ns : List LLVMStruct) : Type 0 where
+  pub each : (i : ℕ) (n : LLVMStruct) → slice_get ns i ≡ Some n → (name : List ℕ) × IsStructOf d name n × HasTypeWith d (NamedType name)
+  pub all : (name : List ℕ) → HasTypeWith d (NamedType name) → (i : ℕ) × (n : LLVMStruct) × (slice_get ns i ≡ Some n) × IsStructOf d name n

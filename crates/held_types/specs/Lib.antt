@@ -1,0 +1,5 @@
+-- The definitions that clauses cite.
+pub mod Held
+pub mod Table
+pub mod Walk
+pub mod Values

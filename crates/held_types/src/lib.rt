@@ -1,0 +1,6 @@
+//! What the values of an LLVM module hold: the structs that an import translates, and the types that it refuses.
+#![tactic(auto)]
+
+pub mod held_structs;
+mod table;
+mod walk;
