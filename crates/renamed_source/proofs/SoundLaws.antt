@@ -1,0 +1,165 @@
+-- A module with its structs under other names is a module still, if names that differ differ still.
+use Rattle.std.proofs.Common.{◌≡◌, ◌<◌, ℕ, Bool, if◌then◌else◌, IsTrue, List, [], Option, Some, None, length, slice_get, refl, sym, ap, ◌∙◌, subst, All, true}
+use Rattle.std.proofs.Math.Path.{fun_ext}
+use Rattle.std.specs.Option.{option_map, option_map_or, option_and_then}
+use Rattle.std.specs.Prelude.{IfSome}
+use Rattle.std.proofs.lemmas.List.{length-map}
+use Rattle.std.proofs.lemmas.List.Elements.{All-map, All-weaker}
+use Rattle.kinds.specs.declared.fitting.Shape.{Shape}
+use Rattle.kinds.specs.declared.fitting.TypeView.{TypeView}
+use Rattle.kinds.specs.Fitting as F
+use Rattle.kinds.specs.Fitting.{fits, view_shape, view_same}
+use Rattle.kinds.specs.Table.{rule_of}
+use Rattle.llvm_core.specs.declared.numbers.LLVMType.{LLVMType}
+use Rattle.llvm_core.specs.declared.types.LLVMTypeKind.{LLVMTypeKind}
+use Rattle.llvm_core.specs.declared.types.LLVMTypeKind.TheVariants as T
+use Rattle.llvm_core.specs.declared.types.ResultType.{ResultType}
+use Rattle.llvm_core.specs.declared.types.ResultType.TheVariants as R
+use Rattle.llvm_core.specs.declared.consts.LLVMConstKind.{LLVMConstKind}
+use Rattle.llvm_core.specs.declared.consts.LLVMConstKind.TheVariants as C
+use Rattle.llvm_core.specs.declared.structs.StructFields.{StructFields}
+use Rattle.llvm_core.specs.declared.structs.StructData.{StructData}
+use Rattle.llvm_core.specs.declared.code.LLVMValue.{LLVMValue}
+use Rattle.llvm_core.specs.declared.code.LLVMValue.TheVariants as V
+use Rattle.llvm_core.specs.declared.code.LLVMInst.{LLVMInst}
+use Rattle.llvm_core.specs.declared.code.LLVMInst.TheVariants as I
+use Rattle.llvm_core.specs.declared.code.PhiEntry.{PhiEntry}
+use Rattle.llvm_core.specs.declared.code.Row.{Row}
+use Rattle.llvm_core.specs.declared.code.FunctionData.{FunctionData}
+use Rattle.llvm_core.specs.declared.code.InstData.{InstData}
+use Rattle.llvm_core.specs.Module.{Module}
+use Rattle.llvm_core.specs.Parts.{IsTypeOver, HasFitParts, IsConstOver, IsFunctionType, IsValue, IsEntry, HasValues, given, result_type, value_type, view}
+use Rattle.llvm_core.specs.Sound.{AreFieldsIn, IsStructIn, IsFunctionIn, IsInstIn, StandsFor, IsModule}
+use Rattle.llvm_core.specs.Data.{AreApart}
+use Rattle.llvm_core.proofs.ApartLemmas.{apart}
+use Rattle.renamed_source.specs.Names.{renamed_kind, renamed_struct_data, renamed_store}
+use Rattle.renamed_source.proofs.KindLaws.{mapped_at, mapped_from, mapped_once, renamed_shape_of, renamed_shapes, renamed_views, renamed_type_params, kind_over, kind_fits, kind_injective}
+
+-- ---- the type of a result, by what is told of types and of values
+
+module _ (views : LLVMType → TypeView) (types : LLVMValue → Option LLVMType) (r : Row) where
+  abbrev operand_by : ℕ → Option LLVMType
+  operand_by i = option_and_then types (slice_get r.operands i)
+
+  abbrev fits_by : Bool
+  fits_by =
+      fits view_shape view_same (rule_of r.op) (length r.operands) (option_map views r.written) (option_map views (operand_by 0)) (option_map views (operand_by 1)) (option_map views (operand_by 2))
+
+  abbrev row_by : Option ResultType
+  row_by = if fits_by then given (rule_of r.op).gives r.written (operand_by 0) (operand_by 1) else None
+
+module _ (to : List ℕ → List ℕ) (m : Module) where
+  abbrev other : Module
+  other = renamed_store to m
+
+  value_same : (v : LLVMValue) → value_type other v ≡ value_type m v
+  value_same (V.Const c) = refl
+  value_same (V.Param f place) =
+      ap (λ (params : LLVMType → List LLVMType). slice_get (option_map_or (λ (x : FunctionData). params x.ty) (slice_get m.functions f.0) []) place) (renamed_type_params to m.types)
+  value_same (V.Inst i) = refl
+
+  pub renamed_values : value_type other ≡ value_type m
+  renamed_values = fun_ext value_same
+
+  -- the type of a result stays
+  pub renamed_result_type : (i : LLVMInst) → result_type other i ≡ result_type m i
+  renamed_result_type (I.Phi type entries) = refl
+  renamed_result_type (I.Row r) =
+      ap (λ (views : LLVMType → TypeView). row_by views (value_type other) r) (renamed_views to m.types) ∙ ap (λ (types : LLVMValue → Option LLVMType). row_by (view m.types) types r) renamed_values
+
+  -- ---- what is there
+
+  count : length other.types ≡ length m.types
+  count = length-map m.types (renamed_kind to)
+
+  same_count : (n : ℕ) → n < length m.types → n < length other.types
+  same_count n lt = subst (λ (l : ℕ). n < l) (sym count) lt
+
+  all_within : (ts : List LLVMType) → All (λ (t : LLVMType). t.0 < length m.types) ts → All (λ (t : LLVMType). t.0 < length other.types) ts
+  all_within ts h = All-weaker (λ (t : LLVMType). t.0 < length m.types) (λ (t : LLVMType). t.0 < length other.types) (λ t lt. same_count t.0 lt) ts h
+
+  const_there : (k : LLVMConstKind) → IsConstOver m.types k → IsConstOver other.types k
+  const_there (C.Int t value) h = (h.0, mapped_at (renamed_kind to) m.types t.0 (T.Int h.0) h.1, h.2)
+  const_there (C.Placeholder number t) h = same_count t.0 h
+
+  fields_there : (b : StructFields) → AreFieldsIn m.types b → AreFieldsIn other.types b
+  fields_there b h = record {
+    within = all_within b.types h.within;
+    fit = subst (λ (s : LLVMType → Shape). All (λ (t : LLVMType). F.is_field (s t) ≡ true) b.types) (sym (renamed_shapes to m.types)) h.fit;
+  }
+
+  body_there : (b : Option StructFields) → IfSome b (AreFieldsIn m.types) → IfSome b (AreFieldsIn other.types)
+  body_there None h = h
+  body_there (Some b) h = fields_there b h
+
+  structs_there : All (IsStructIn m.types) m.structs → All (IsStructIn other.types) other.structs
+  structs_there h =
+      All-map (IsStructIn other.types) (renamed_struct_data to) m.structs
+      (All-weaker (IsStructIn m.types) (λ (x : StructData). IsStructIn other.types (renamed_struct_data to x)) (λ x. body_there x.body) m.structs h)
+
+  function_typed : (t : LLVMType) → IsFunctionType m.types t → IsFunctionType other.types t
+  function_typed t h = (renamed_kind to h.0, mapped_at (renamed_kind to) m.types t.0 h.0 h.1, subst (λ (s : Shape). IsTrue (F.is_function s)) (sym (renamed_shape_of to h.0)) h.2)
+
+  function_there : (x : FunctionData) → IsFunctionIn m x → IsFunctionIn other x
+  function_there x h = record {
+    typed = function_typed x.ty h.typed;
+    params = h.params ∙ ap (λ (params : LLVMType → List LLVMType). length (params x.ty)) (sym (renamed_type_params to m.types));
+    blocks = h.blocks;
+    once = h.once;
+  }
+
+  value_there : (v : LLVMValue) → IsValue m v → IsValue other v
+  value_there (V.Const c) h = h
+  value_there (V.Param f place) h = h
+  value_there (V.Inst i) h = h
+
+  entry_there : (e : PhiEntry) → IsEntry m e → IsEntry other e
+  entry_there e h = (value_there e.value h.0, h.1)
+
+  written_there : (o : Option LLVMType) → IfSome o (λ (t : LLVMType). t.0 < length m.types) → IfSome o (λ (t : LLVMType). t.0 < length other.types)
+  written_there None h = h
+  written_there (Some t) h = same_count t.0 h
+
+  values_there : (i : LLVMInst) → HasValues m i → HasValues other i
+  values_there (I.Phi type entries) h = (same_count type.0 h.0, All-weaker (IsEntry m) (IsEntry other) entry_there entries h.1)
+  values_there (I.Row r) h = (All-weaker (IsValue m) (IsValue other) value_there r.operands h.0, h.1, written_there r.written h.2)
+
+  stands : (o : Option ResultType) (t : LLVMType) → StandsFor m.types o t → StandsFor other.types o t
+  stands (Some (R.There u)) t h = h
+  stands (Some R.Bit) t h = mapped_at (renamed_kind to) m.types t.0 (T.Int 1) h
+  stands None t h = mapped_at (renamed_kind to) m.types t.0 T.Void h
+
+  inst_there : (x : InstData) → IsInstIn m x → IsInstIn other x
+  inst_there x h = record {
+    block = h.block;
+    typed = same_count x.ty.0 h.typed;
+    result = subst (λ (o : Option ResultType). StandsFor other.types o x.ty) (sym (renamed_result_type x.inst)) (stands (result_type m x.inst) x.ty h.result);
+    values = values_there x.inst h.values;
+  }
+
+  type_over : IsModule m → (i : ℕ) (k : LLVMTypeKind) → slice_get other.types i ≡ Some k → IsTypeOver i k
+  type_over s i k at = let l = mapped_from (renamed_kind to) m.types i k at in subst (IsTypeOver i) l.2 (kind_over to i l.0 (s.types i l.0 l.1))
+
+  type_fits : IsModule m → (i : ℕ) (k : LLVMTypeKind) → slice_get other.types i ≡ Some k → HasFitParts other.types k
+  type_fits s i k at = let l = mapped_from (renamed_kind to) m.types i k at in subst (HasFitParts other.types) l.2 (kind_fits to m.types l.0 (s.types_fit i l.0 l.1))
+
+  pub renamed_sound : ((a b : List ℕ) → to a ≡ to b → a ≡ b) → IsModule m → IsModule (renamed_store to m)
+  renamed_sound injective s = record {
+    types = type_over s;
+    types_fit = type_fits s;
+    types_once = mapped_once (renamed_kind to) (kind_injective to injective) m.types s.types_once;
+    consts = λ i k at. const_there k (s.consts i k at);
+    consts_once = s.consts_once;
+    structs = structs_there s.structs;
+    functions = λ f x at. function_there x (s.functions f x at);
+    blocks = λ b x at. let h = s.blocks b x at in record { function = h.function; insts = h.insts };
+    insts = λ i x at. inst_there x (s.insts i x at);
+    listed_blocks = s.listed_blocks;
+    listed_insts = s.listed_insts;
+    owned_blocks = s.owned_blocks;
+    owned_insts = s.owned_insts;
+  }
+
+  -- equal trees have equal numbers in it, as in every module
+  pub renamed_apart : ((a b : List ℕ) → to a ≡ to b → a ≡ b) → IsModule m → AreApart m → AreApart (renamed_store to m)
+  renamed_apart injective s _ = apart (renamed_store to m) (renamed_sound injective s)

@@ -1,0 +1,3 @@
+-- The definitions that clauses cite.
+pub mod Names
+pub mod Source
