@@ -29,6 +29,7 @@ fit_tree ts (K.Struct fields layout) h = fields_fit ts fields h
 fit_tree ts (K.Integer w) h = tt
 fit_tree ts (K.Pointer space) h = tt
 fit_tree ts (K.Floating of) h = tt
+fit_tree ts (K.Named name body) h = tt
 fit_tree ts (K.Func r ps v) h = tt
 fit_tree ts K.Void h = tt
 

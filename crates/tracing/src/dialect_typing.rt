@@ -15,6 +15,7 @@ use llvm_core::numbers::LLVMType;
 use llvm_core::types::LLVMTypeKind;
 use std::alloc::{AllocError, Global};
 use support::items::Items;
+use support::text::Text;
 
 /// The place of the type of a value, where it and its parts get one if they have none yet.
 #[cycle(place)]
@@ -73,6 +74,10 @@ fn placed_kind(
                 fields,
                 layout: *layout,
             })
+        }
+        TypeKind::Named { name, .. } => {
+            let name = Text::copy(alloc, name.as_str())?;
+            Ok(LLVMTypeKind::Named(name))
         }
         TypeKind::Void => unreachable!(),
         TypeKind::Func { .. } => unreachable!(),
