@@ -1,8 +1,9 @@
 -- A function that an import made has the code of the one that it stands for.
-use Rattle.std.proofs.Common.{ℕ, zero, suc, ◌≡◌, ◌<◌, ◌≤◌, refl, sym, ◌∙◌, ap, subst, true, List, [], ◌∷◌, Option, Some, unwrap_or, length, slice_get, slice_index_or, arith}
+use Rattle.std.proofs.Common.{ℕ, zero, suc, ◌≡◌, ◌<◌, ◌≤◌, refl, sym, ◌∙◌, ap, subst, Bool, true, List, [], ◌∷◌, Option, Some, unwrap_or, length, slice_get, slice_index_or, arith}
+use Rattle.std.proofs.lemmas.List.{length-map}
 use Rattle.std.proofs.lemmas.Option.{slice_get_within}
 use Rattle.support.proofs.ListLaws.{item_there}
-use Rattle.kinds.specs.Held.{IsHeldSignature}
+use Rattle.kinds.specs.Types.{TypeTree}
 use Rattle.llvm_core.specs.Data as L
 use Rattle.llvm_core.specs.Data.{ModuleData}
 use Rattle.llvm_core.specs.Form.{IsFormFunction}
@@ -10,12 +11,14 @@ use Rattle.llvm_core.proofs.DataLemmas.{within_at}
 use Rattle.dialect_types.specs.Legalised.{Named}
 use Rattle.dialect_core.specs.Data as D
 use Rattle.meaning.specs.Terms.{Match, rename_type}
-use Rattle.meaning.specs.Code.{FunctionSymbol, External, SameNamed, SameBody, IsOneToOne}
+use Rattle.meaning.specs.Code.{FunctionSymbol, External, rename_symbol, SameNamed, SameBody, IsOneToOne}
+use Rattle.meaning.specs.Renamed.{renamed_function, renamed_block}
 use Rattle.meaning.specs.Setting.{Setting}
 use Rattle.meaning.specs.Llvm as Llvm
 use Rattle.meaning.specs.Dialect as Dialect
 use Rattle.meaning.proofs.ShapeLaws.{same_shape}
-use Rattle.meaning.proofs.EntryLaws.{signature_stays, some_blocks, not_empty, same_symbol, both}
+use Rattle.meaning.proofs.EntryLaws.{some_blocks, not_empty, both}
+use Rattle.meaning.proofs.RenamedLaws.{renamed_same_shape}
 use Rattle.from_llvm_ir.specs.declared.matching.FunctionBlocks.{FunctionBlocks}
 use Rattle.from_llvm_ir.specs.Match.{IsPlaces, place_at}
 use Rattle.from_llvm_ir.specs.Imported.{ImportedFunction, IsImportedBlock}
@@ -67,34 +70,48 @@ one_to_one x n m here h is same = record {
 pub kept_as : (given : List Named) (d : ModuleData) (f : L.Function) (x : FunctionBlocks) (g : D.Func) → ImportedFunction d given f x g → D.llvm_name_of g ≡ f.name
 kept_as given d f x g h = ap (λ (n : Option (List ℕ)). unwrap_or n g.name) h.llvm_name ∙ kept_back f.name g.name
 
+-- the match with names of structs that stay
+abbrev pub plain : Match → Match
+plain match = record match { struct = λ s. s }
+
+pub symbol_named : (match : Match) (t u : TypeTree) (s : ℕ) (b c : Bool) → rename_type match t ≡ u → s ≡ 0 → b ≡ c → rename_symbol match (FunctionSymbol t External s b) ≡ FunctionSymbol u External 0 c
+symbol_named match t u s b c type space body = cc (type, space, body)
+
+-- f stands in the source as it is, and was imported under the match's names of structs
 module _ (match : Match) (d : ModuleData) (given : List Named) (f : L.Function) (x : FunctionBlocks) (g : D.Func) (here : (b : ℕ) → match.block f.name b ≡ place_at b x)
-    (form : IsFormFunction f) (h : ImportedFunction d given f x g) where
+    (form : IsFormFunction f) (h : ImportedFunction d given (renamed_function match.struct f) x g) where
   pub has : Llvm.has_blocks f ≡ true
   has = some_blocks f.blocks form.body
 
+  pub as_many : length g.blocks ≡ length f.blocks
+  as_many = same_blocks d given (renamed_function match.struct f) x g h ∙ length-map f.blocks (renamed_block match.struct)
+
   has_dialect : Dialect.has_blocks g ≡ true
-  has_dialect = some_blocks g.blocks (not_empty f.blocks g.blocks (same_blocks d given f x g h) form.body)
+  has_dialect = some_blocks g.blocks (not_empty f.blocks g.blocks as_many form.body)
+
+  pub placed : IsPlaces (length f.blocks) x.places
+  placed = subst (λ (n : ℕ). IsPlaces n x.places) (length-map f.blocks (renamed_block match.struct)) h.places
 
   pub imported_body : (source made : Setting) → SameBody match f.name (Llvm.body source f) (Dialect.body made g)
   imported_body source made = record {
-    blocks = one_to_one x (length f.blocks) (length g.blocks) (match.block f.name) h.places here (same_blocks d given f x g h);
-    traces = same_shape match source f made g (h.shape match source made here);
+    blocks = one_to_one x (length f.blocks) (length g.blocks) (match.block f.name) placed here as_many;
+    traces = same_shape match source f made g (
+        renamed_same_shape match.struct (plain match) match (λ s. refl) (λ s. refl) (λ n b. refl) source f made g (h.shape (plain match) source made (λ s. refl) here)
+        );
   }
 
   linked : FunctionSymbol g.type (Dialect.linkage g.linkage) 0 (Dialect.has_blocks g) ≡ FunctionSymbol g.type External 0 (Dialect.has_blocks g)
   linked = rw h.form.linkage refl
 
-  -- its type is translated, so the match leaves it
-  pub type_kept : rename_type match f.type ≡ f.type
-  type_kept =
-      let made = h.form in
-      signature_stays match f.type (subst IsHeldSignature h.type (record { result = made.result; params = made.types; is = made.type; returns = made.returns; takes = made.takes; shallow = made.shallow }))
+  -- its type is that of the source under these names
+  pub type_named : rename_type match f.type ≡ g.type
+  type_named = sym h.type
 
   pub imported_entry : (source made : Setting) → SameNamed match (Llvm.entry source f) (Dialect.entry made g)
   imported_entry source made = record {
-    name = sym (kept_as given d f x g h);
+    name = sym (kept_as given d (renamed_function match.struct f) x g h);
     entry = record {
-      symbol = same_symbol match f.type g.type f.space (Llvm.has_blocks f) (Dialect.has_blocks g) type_kept (sym h.type) form.space (has ∙ sym has_dialect) ∙ sym linked;
+      symbol = symbol_named match f.type g.type f.space (Llvm.has_blocks f) (Dialect.has_blocks g) type_named form.space (has ∙ sym has_dialect) ∙ sym linked;
       body = both match f.name (Llvm.has_blocks f) (Dialect.has_blocks g) (Llvm.body source f) (Dialect.body made g) has has_dialect (imported_body source made);
     };
   }

@@ -21,7 +21,7 @@ use Rattle.llvm_core.proofs.RuleLaws.{shape_kept}
 use Rattle.dialect_types.specs.declared.types.TypeHandle.{TypeHandle}
 use Rattle.dialect_types.specs.declared.types.TypeKind.{TypeKind}
 use Rattle.dialect_types.specs.declared.types.TypeKind.TheVariants as K
-use Rattle.dialect_types.specs.Trees.{type_at, types_at, type_tree, HasFitParts}
+use Rattle.dialect_types.specs.Trees.{type_at, types_at, type_tree, is_named, HasFitParts}
 use Rattle.from_llvm_ir.proofs.TypeLaws.{listed, params_are}
 use Rattle.from_llvm_ir.proofs.SourceLaws.{all_held}
 
@@ -78,13 +78,13 @@ module _ (m : Module) (sound : IsModule m) (ty : LLVMType) (k : LLVMTypeKind) (a
   pub kind_held : (is_nothing (shape_of k) || is_held (shape_of k)) ≡ true
   kind_held = ap (λ s. is_nothing s || is_held s) (shape_kept trees k) ∙ result_shape (L.type_tree trees k) (tree_held k refl)
 
--- any other has none: a line for each kind that has parts, here or by its name; one by its name is not translated
-pub no_parts : (k : LLVMTypeKind) → (is_nothing (shape_of k) || is_held (shape_of k)) ≡ true → ((n : ℕ) (u : LLVMType) → k ≡ T.Array n u → ⊥) → ((v : VectorTypeKind) (n : ℕ) (u : LLVMType) → k ≡ T.Vector v n u → ⊥) → ((us : List LLVMType) (l : StructLayout) → k ≡ T.Literal us l → ⊥) → is_made (shape_of k) ≡ false
-no_parts (T.Array n u) h a v s = absurd (a n u refl)
-no_parts (T.Vector w n u) h a v s = absurd (v w n u refl)
-no_parts (T.Literal us l) h a v s = absurd (s us l refl)
-no_parts (T.Named name) h a v s = cc
-no_parts k h a v s = refl
+-- any other has none: a line for each kind that has parts, here or by its name
+pub no_parts : (k : LLVMTypeKind) → (is_nothing (shape_of k) || is_held (shape_of k)) ≡ true → ((n : List ℕ) → k ≡ T.Named n → ⊥) → ((n : ℕ) (u : LLVMType) → k ≡ T.Array n u → ⊥) → ((v : VectorTypeKind) (n : ℕ) (u : LLVMType) → k ≡ T.Vector v n u → ⊥) → ((us : List LLVMType) (l : StructLayout) → k ≡ T.Literal us l → ⊥) → is_made (shape_of k) ≡ false
+no_parts (T.Array n u) h d a v s = absurd (a n u refl)
+no_parts (T.Vector w n u) h d a v s = absurd (v w n u refl)
+no_parts (T.Literal us l) h d a v s = absurd (s us l refl)
+no_parts (T.Named name) h d a v s = absurd (d name refl)
+no_parts k h d a v s = refl
 
 -- ---- the kind that stands for it
 
@@ -100,13 +100,14 @@ fields_fit ts (x ∷ xs) h =
     All-cons (λ (t : TypeHandle). is_field (shape (type_at ts t)) ≡ true) x xs (and_left (is_field (shape u)) (throughout is_held u) front)
     (fields_fit ts xs (and_right (is_field (shape u) && throughout is_held u) (each_throughout is_held (types_at ts xs)) h))
 
--- what it is made of may stand in it: a line for each kind that has parts
-pub held_fit : (ts : List TypeTree) (k : TypeKind) → IsHeldResult (type_tree ts k) → HasFitParts ts k
-held_fit ts (K.Array t n) h =
+-- what it is made of may stand in it: a line for each kind that has parts, here or by its name
+pub held_fit : (ts : List TypeTree) (k : TypeKind) → is_named k ≡ false → IsHeldResult (type_tree ts k) → HasFitParts ts k
+held_fit ts (K.Named name body) plain h = cc
+held_fit ts (K.Array t n) plain h =
     let u = type_at ts t in
     and_left (is_array_of n (shape u)) (throughout is_held u) (held_throughout (ArrayType n u) (held_result_own (ArrayType n u) h refl))
-held_fit ts (K.Vector t n v) h =
+held_fit ts (K.Vector t n v) plain h =
     let u = type_at ts t in
     and_left (is_vector_of n (shape u)) (throughout is_held u) (held_throughout (VectorType v n u) (held_result_own (VectorType v n u) h refl))
-held_fit ts (K.Struct xs l) h = fields_fit ts xs (held_throughout (StructType l (types_at ts xs)) (held_result_own (StructType l (types_at ts xs)) h refl))
-held_fit ts k h = tt
+held_fit ts (K.Struct xs l) plain h = fields_fit ts xs (held_throughout (StructType l (types_at ts xs)) (held_result_own (StructType l (types_at ts xs)) h refl))
+held_fit ts k plain h = tt

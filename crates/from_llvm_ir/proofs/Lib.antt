@@ -1,5 +1,8 @@
 -- The lemmas of the crate.
 pub mod TypeLaws
+pub mod FieldLaws
+pub mod NamingLaws
+pub mod StructLaws
 pub mod ListLaws
 pub mod NameLaws
 pub mod PlaceLaws
@@ -14,7 +17,10 @@ pub mod OpLaws
 pub mod UnderLaws
 pub mod SourceLaws
 pub mod KindLaws
+pub mod PartsLaws
 pub mod RefusedLaws
+pub mod RenamedWalks
+pub mod SeenLaws
 pub mod EntryLaws
 pub mod PassLaws
 pub mod TakenLaws

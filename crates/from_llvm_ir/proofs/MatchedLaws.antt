@@ -15,6 +15,7 @@ use Rattle.dialect_core.specs.Form.{IsFormFunc, IsExportable}
 use Rattle.meaning.specs.Code.{IsDistinctNames}
 use Rattle.from_llvm_ir.specs.declared.matching.FunctionBlocks.{FunctionBlocks}
 use Rattle.from_llvm_ir.specs.Match.{place_at, match_of}
+use Rattle.from_llvm_ir.specs.Structs.{StructNames}
 use Rattle.from_llvm_ir.proofs.PairLaws.{find_only}
 use Rattle.from_llvm_ir.proofs.CodeLaws.{kept_as}
 use Rattle.from_llvm_ir.specs.Imported.{ImportedFunction, AreImported, NoneImported, ThenImported}
@@ -114,7 +115,7 @@ pub found_by_number : (xs : List FunctionBlocks) (i : ℕ) (x : FunctionBlocks) 
 found_by_number xs i x numbered at =
     find_only (λ (y : FunctionBlocks). nat_eq y.function.0 i) xs i x at (eq-eqb x.function.0 i (numbered i x at)) (λ j y here same. sym (numbered j y here) ∙ eqb-true y.function.0 i same)
 
-module _ (d : ModuleData) (given : List Named) (xs : List FunctionBlocks) (gs : List D.Func) (distinct : IsDistinctNames (function_names d.functions))
+module _ (d : ModuleData) (given : List Named) (xs : List FunctionBlocks) (gs : List D.Func) (ss : StructNames) (distinct : IsDistinctNames (function_names d.functions))
     (numbered : (i : ℕ) (f : Function) → slice_get d.functions i ≡ Some f → f.number ≡ i) (h : AreImported d given d.functions xs gs) where
   entry_numbered : (j : ℕ) (y : FunctionBlocks) → slice_get xs j ≡ Some y → y.function.0 ≡ j
   entry_numbered j y at =
@@ -125,7 +126,7 @@ module _ (d : ModuleData) (given : List Named) (xs : List FunctionBlocks) (gs : 
       subst (λ (z : FunctionBlocks). z.function.0 ≡ j) same (p.imported.function ∙ numbered j f here)
 
   -- the match puts a block where the entry of its function says
-  pub matched_place : (i : ℕ) (f : Function) (x : FunctionBlocks) → slice_get d.functions i ≡ Some f → slice_get xs i ≡ Some x → (b : ℕ) → (match_of d xs).block f.name b ≡ place_at b x
+  pub matched_place : (i : ℕ) (f : Function) (x : FunctionBlocks) → slice_get d.functions i ≡ Some f → slice_get xs i ≡ Some x → (b : ℕ) → (match_of d xs ss).block f.name b ≡ place_at b x
   matched_place i f x at here b =
       let n = numbered i f at in
       rw (found_by_name d.functions i f distinct at, n, found_by_number xs i x entry_numbered here) refl

@@ -23,6 +23,7 @@ use Rattle.dialect_core.specs.ContextData.{ContextData, AreRegions, IsSymbol, wi
 use Rattle.dialect_core.specs.Data.{DialectModule, Func, with_func, data_of}
 use Rattle.dialect_core.specs.WellFormed.{IsFew, IsFewFunc}
 use Rattle.dialect_core.proofs.FilterLemmas.{change_get}
+use Rattle.renamed_source.specs.Source.{pairs_of}
 use Rattle.from_llvm_ir.specs.declared.importing.Imported.{Imported}
 use Rattle.from_llvm_ir.specs.declared.matching.FunctionBlocks.{FunctionBlocks}
 use Rattle.from_llvm_ir.specs.declared.conversion_err.ConversionErr.{ConversionErr}
@@ -30,7 +31,7 @@ use Rattle.from_llvm_ir.specs.declared.conversion_err.ConversionErr.TheVariants 
 use Rattle.meaning.specs.Pairs.{Matched}
 use Rattle.meaning.proofs.MatchedLaws.{matched_at, matched_length}
 use Rattle.from_llvm_ir.specs.Imported.{FirstUses, NoUses, BeginsWith, IsOwn, AreImported, NoneImported, ThenImported, ImportedFunction, IsBuilding, IsImported, imported_data}
-use Rattle.from_llvm_ir.specs.Refusals.{IsCause, IsRefusalOfFunction}
+use Rattle.from_llvm_ir.specs.Refusals.{IsRefusalOfFunctions, IsRefusalOfFunction}
 use Rattle.from_llvm_ir.specs.Source.{IsSource}
 use Rattle.from_llvm_ir.specs.Importing.{IsImportedTo}
 use Rattle.from_llvm_ir.specs.Naming.{names_in, HasMet, HasMetFirst}
@@ -114,8 +115,8 @@ imported_more d given k g c c' o body name xs x h at one = record {
 
 -- the module is imported when all functions are, and its lists are short
 pub imported_whole : (m : Module) (given : List Named) (c : ContextData) (i : Imported) (body : BlockRef) (name : List ℕ) → IsLegalised given → BeginsWith (source_of m) given → Gave given m.name name → AreRegions (region_at c.ops) (holder_at c.blocks) → ((o : OpRef) → kind_at c.ops o ≡ Some K.Func → IsSymbol c.ops o)
-    → IsFew (list_at c.lists body) × All (IsFewFunc c) (list_at c.lists body) → IsImportedTo (source_of m) given (length m.functions) c i.«module».0.0 body name i.blocks → IsImported (source_of m) c i
-imported_whole m given c i body name legal begins gave regions symbols few h =
+    → IsFew (list_at c.lists body) × All (IsFewFunc c) (list_at c.lists body) → All (λ (p : List ℕ × List ℕ). Gave given p.0 p.1) (pairs_of i.structs.items) → IsImportedTo (source_of m) given (length m.functions) c i.«module».0.0 body name i.blocks → IsImported (source_of m) c i
+imported_whole m given c i body name legal begins gave regions symbols few structs h =
     let same : imported_data c i ≡ h.so_far = h.building.is in
     let all = take_all (length m.functions) (source_of m).functions (omega (arith, function_count m)) in
     let building = subst (λ (d : DialectModule). IsBuilding c i.«module».0.0 body d) (sym same) h.building in
@@ -128,6 +129,7 @@ imported_whole m given c i body name legal begins gave regions symbols few h =
       body = body;
       building = building;
       name = subst (Gave given m.name) (sym (ap (λ (d : DialectModule). d.name) same ∙ h.name_is)) gave;
+      structs = structs;
       functions = functions;
       well_formed = well_formed (source_of m) given legal c i.«module».0.0 body i.blocks building functions regions symbols few;
     }
@@ -141,9 +143,10 @@ begun_with m old between new none root functions =
     record { firsts = names.0; first_uses = names.1; others = names.2; are = names.3 }
 
 -- what refuses a function refuses the module
-pub function_cause : (m : Module) (f : LLVMFunction) (g : L.Function) (e : ConversionErr) → IsSource m f g → IsRefusalOfFunction g e → IsCause (source_of m) e
+pub function_cause : (m : Module) (f : LLVMFunction) (g : L.Function) (e : ConversionErr) → IsSource m f g → IsRefusalOfFunction g e → IsRefusalOfFunctions (source_of m) e
 function_cause m f g (E.UndefinedValue name v) h refused = record { place = f.0; f = g; at = h.at; refused = refused }
 function_cause m f g (E.Unsupported u) h refused = absurd refused
+function_cause m f g (E.Struct s) h refused = absurd refused
 function_cause m f g E.NoMemory h refused = tt
 
 -- as many identifiers as functions

@@ -171,4 +171,5 @@ module _ (fr : Frame) (m : Module) (f : LLVMFunction) (targets : Targets) (entri
           named = u.named ∙ name_found m f g u.inst u.row h.framed.source usable.1.stands u.at;
         }
     late os (E.Unsupported t) more u = u
+    late os (E.Struct s) more u = u
     late os E.NoMemory more u = tt

@@ -10,7 +10,7 @@ use mathlib.Core.Path.{fun_ext}
 use Rattle.std.proofs.lemmas.List.Concat.{flat_map-append}
 use Rattle.std.proofs.lemmas.Option.{same_Some, none-some, slice_get_within, slice_get-map, slice_get_past, get_or_from_slice_get}
 use Rattle.meaning.proofs.MatchedLaws.{matched_length, matched_at, matched_append}
-use Rattle.meaning.proofs.EntryLaws.{held_stays, held_result_stays}
+use Rattle.meaning.proofs.RenamedLaws.{names_stay}
 use Rattle.support.proofs.ListLaws.{item_there, slice_get-kept, filter_from}
 use Rattle.llvm_core.specs.Form as LF
 use Rattle.llvm_core.specs.Data as L
@@ -125,7 +125,7 @@ place_found {X = X} number from (y ∷ xs) (suc i) x m at is one =
     ∙ place_found number (from + 1) xs i x m at is (λ j z here same. let s = one (suc j) z here same in omega (arith, s))
     ∙ ap Some (let e : from + 1 + i ≡ from + suc i = omega arith in e)
 
-module _ (source made : Setting) (n : Head) (k : Known) (cs : List DialectBlock) (h : IsWhole k cs) (match : Match) where
+module _ (source made : Setting) (n : Head) (k : Known) (cs : List DialectBlock) (h : IsWhole k cs) (match : Match) (named : (s : List ℕ) → match.struct s ≡ s) where
   abbrev g : L.Function
   g = k.frame.source
 
@@ -160,12 +160,12 @@ module _ (source made : Setting) (n : Head) (k : Known) (cs : List DialectBlock)
   stands_for (L.Result m) w st = stands_value n k cs h (Llvm.ResultKey m) w st
 
   typed : (t : L.TypeTree) (o : L.Operand) (w : Value) → Stands k o w → LF.IsOperand g t o → rename_type match (operand_type g o) ≡ option_type (value_type G w)
-  typed t o w st f = held_stays match (operand_type g o) (subst IsHeld (sym f.typed) (operand_held g h.form h.held t o f)) ∙ f.typed ∙ sym (ap option_type (operand_typed n k cs h t o w st f))
+  typed t o w st f = names_stay match named (operand_type g o) ∙ f.typed ∙ sym (ap option_type (operand_typed n k cs h t o w st f))
 
   -- ---- rows
 
   result_type : (p : Placed) (o : DialectOp) → IsHeldResult p.type → o.result ≡ own_type p.type → rename_type match p.type ≡ option_type o.result
-  result_type p o held e = held_result_stays match p.type held ∙ by (is_void p.type) refl ∙ sym (ap option_type e)
+  result_type p o held e = names_stay match named p.type ∙ by (is_void p.type) refl ∙ sym (ap option_type e)
     where
       by : (v : Bool) → is_void p.type ≡ v → p.type ≡ option_type (if v then None else Some p.type)
       by true is = void_is p.type is

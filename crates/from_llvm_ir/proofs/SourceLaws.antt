@@ -23,7 +23,7 @@ use Rattle.llvm_core.specs.Sound.{IsModule}
 use Rattle.llvm_core.specs.declared.code.LLVMValue.TheVariants as V
 use Rattle.llvm_core.specs.Parts.{is_phi, value_type, shape_of}
 use Rattle.llvm_core.specs.Form as LF
-use Rattle.llvm_core.specs.Form.{IsForm, IsFormFunction, IsHeldFunction, AreHeld}
+use Rattle.llvm_core.specs.Form.{IsFormFunction, IsHeldFunction}
 use Rattle.llvm_core.specs.Data.{TypeTree, FunctionType, TypeTrees, type_at, types_at, type_tree, trees_of, Function, function_of, Block, block_of, Placed, placed_of, Instruction, instruction_of, phi_entries, Trees, data_of}
 use Rattle.llvm_core.proofs.ApartLemmas.{apart}
 use Rattle.llvm_core.proofs.DataLemmas.{within_at, type_tree_of, function_at, function_count, block_count_of, block_of_number, inst_count_of, inst_of_number}
@@ -208,12 +208,12 @@ function_named m k name lt has =
     (function_of (trees_of m) m.blocks m.insts (k, x.0), function_at m k x.0 x.1.0, sym x.1.1)
 
 -- each function of a module of the form is a source, where its types are held
-pub source_at : (m : Module) (k : ℕ) → IsModule m → IsForm (data_of m) → AreHeld (data_of m) → k < length m.functions → (g : Function) × IsSource m (record { 0 = k }) g
+pub source_at : (m : Module) (k : ℕ) → IsModule m → All IsFormFunction (data_of m).functions → All IsHeldFunction (data_of m).functions → k < length m.functions → (g : Function) × IsSource m (record { 0 = k }) g
 source_at m k sound form held lt =
     let x = item_there m.functions k lt in
     let at = function_at m k x.0 x.1 in
     let g = function_of (trees_of m) m.blocks m.insts (k, x.0) in
-    (g, record { sound = sound; apart = apart m sound; at = at; form = within_at (data_of m).functions IsFormFunction form.functions k g at; held = within_at (data_of m).functions IsHeldFunction held k g at })
+    (g, record { sound = sound; apart = apart m sound; at = at; form = within_at (data_of m).functions IsFormFunction form k g at; held = within_at (data_of m).functions IsHeldFunction held k g at })
 
 -- the instruction at an index of the list of a block
 pub listed_at : (m : Module) (g : Function) (n : LLVMBasicBlock) (place : ℕ) (b : Block) (is : List LLVMInstRef) (k : ℕ) (d : LLVMInstRef) → IsModule m → IsBlockOf m g n place b → option_map (λ (x : BlockData). x.insts) (slice_get m.blocks n.0) ≡ Some is → k < length is → (p : Placed) × IsInstOf m b (get_or is k d) k p

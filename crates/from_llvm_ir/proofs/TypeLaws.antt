@@ -11,12 +11,12 @@ use Rattle.dialect_core.specs.ContextData.{ContextData}
 use Rattle.kinds.specs.Types.{types_list, params_of}
 use Rattle.kinds.specs.Held.{IsShallow}
 use Rattle.from_llvm_ir.proofs.PlaceLaws.{filter_next, filter_skip}
-use Rattle.from_llvm_ir.specs.Types.{GrowsTypes}
+use Rattle.from_llvm_ir.specs.Types.{AddsTypes, GrowsTypes}
 
 -- ---- types of the context that grow
 
 pub grows_none : (c : ContextData) → GrowsTypes c c
-grows_none c = record { rest = refl; more = record { still = λ i k at. at; longer = omega arith; kept = λ t small. refl } }
+grows_none c = record { rest = refl; more = record { still = λ i k at. at; longer = omega arith; kept = λ t small. refl }; structs = refl }
 
 pub grows_then : (a b c : ContextData) → GrowsTypes a b → GrowsTypes b c → GrowsTypes a c
 grows_then a b c x y = record {
@@ -26,7 +26,11 @@ grows_then a b c x y = record {
     longer = omega (arith, x.more.longer, y.more.longer);
     kept = λ t small. y.more.kept t (omega (arith, small, x.more.longer)) ∙ x.more.kept t small;
   };
+  structs = y.structs ∙ x.structs;
 }
+
+pub adds : (a b : ContextData) → GrowsTypes a b → AddsTypes a b
+adds a b g = record { rest = g.rest; more = g.more }
 
 -- handles keep their types
 pub trees_kept : (a b : ContextData) → GrowsTypes a b → (ts : List TypeHandle) → All (λ (t : TypeHandle). t.0 < length a.types) ts → map (type_at (type_trees b.types)) ts ≡ map (type_at (type_trees a.types)) ts

@@ -214,6 +214,7 @@ module _ (g : L.Function) (form : LF.IsFormFunction g) where
       → (e : ConversionErr) → IsLate g places e → IsRefusalOfFunction g e
   refused order places dominated is reached before inverse (E.UndefinedValue name v) h = record { inst = h.inst; value = h.value; undefined = undefined places h.inst.0 h.early order dominated is reached before inverse; named = h.named }
   refused order places dominated is reached before inverse (E.Unsupported u) h = h
+  refused order places dominated is reached before inverse (E.Struct s) h = h
   refused order places dominated is reached before inverse E.NoMemory h = tt
 
 -- ---- valid uses

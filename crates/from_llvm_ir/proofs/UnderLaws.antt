@@ -18,13 +18,14 @@ use Rattle.dialect_core.specs.declared.ops.OpKind.{OpKind}
 use Rattle.dialect_core.specs.declared.ops.OpData.{OpData}
 use Rattle.dialect_core.specs.ContextData.{ContextData, with_op, with_appended, is_plain}
 use Rattle.dialect_core.specs.Data.{DialectModule, Func, DialectBlock, DialectOp, Kind, IsTypedOp, data_of, kind_of, op_at, more_block, with_func, with_func_block, with_block_op}
-use Rattle.from_llvm_ir.specs.Types.{GrowsTypes}
+use Rattle.from_llvm_ir.specs.Types.{AddsTypes, GrowsTypes}
 use Rattle.from_llvm_ir.specs.Imported.{IsBuilding, IsBelow}
 use Rattle.from_llvm_ir.specs.Building.{Home, IsUnder, IsOpen, AreBare, AreFresh, AreNumbered, with_blocks, with_ops, ops_of, op_data, new_op}
 use Rattle.from_llvm_ir.proofs.OwnLaws.{own_data, own_types}
 use Rattle.from_llvm_ir.proofs.BuildLaws.{length-push}
 use Rattle.from_llvm_ir.proofs.PlaceLaws.{flat_none}
 use Rattle.from_llvm_ir.proofs.OpLaws.{added_op}
+use Rattle.from_llvm_ir.proofs.TypeLaws.{adds}
 
 -- ---- numbers
 
@@ -187,8 +188,8 @@ added_open h base c0 c1 c2 b left now right o kind name operands successors resu
 
 -- ---- more types
 
-pub typed_building : (c c' : ContextData) (m : ℕ) (body : BlockRef) (d : DialectModule) → IsBuilding c m body d → GrowsTypes c c' → IsBuilding c' m body d
-typed_building c c' m body d h g = subst (λ (x : ContextData). IsBuilding x m body d) (sym g.rest) (record {
+pub added_building : (c c' : ContextData) (m : ℕ) (body : BlockRef) (d : DialectModule) → IsBuilding c m body d → AddsTypes c c' → IsBuilding c' m body d
+added_building c c' m body d h g = subst (λ (x : ContextData). IsBuilding x m body d) (sym g.rest) (record {
   held = record { kind = h.held.kind; region = h.held.region; block = h.held.block; holder = h.held.holder; bare = h.held.bare };
   apart = record { funcs = h.apart.funcs; plain = h.apart.plain };
   is = own_data c c'.types m body h.held h.own g.more.kept ∙ h.is;
@@ -196,6 +197,9 @@ typed_building c c' m body d h g = subst (λ (x : ContextData). IsBuilding x m b
   own = own_types c c'.types m body h.own g.more.longer;
   below = h.below;
 })
+
+pub typed_building : (c c' : ContextData) (m : ℕ) (body : BlockRef) (d : DialectModule) → IsBuilding c m body d → GrowsTypes c c' → IsBuilding c' m body d
+typed_building c c' m body d h g = added_building c c' m body d h (adds c c' g)
 
 pub typed_under : (h : Home) (base : ℕ) (c c' : ContextData) (bs : List DialectBlock) → IsUnder h base c bs → GrowsTypes c c' → IsUnder h base c' bs
 typed_under h base c c' bs u g = record {

@@ -94,5 +94,5 @@ module _ (d : L.ModuleData) (n : Head) (k : Known) (cs : List DialectBlock) (h :
     hoisted = k.hoisted;
     made = matched_weaker IsConstantOp Makes makes k.constants k.hoisted h.made;
     blocks = imported_at;
-    shape = λ match source made at. shape_of source made n k cs h match x.places inverse p.count at;
+    shape = λ match source made named at. shape_of source made n k cs h match named x.places inverse p.count at;
   }

@@ -154,4 +154,5 @@ pub record IsBegun (fr : Frame) (m : Module) (f : LLVMFunction) (targets : Targe
 abbrev pub IsLate : L.Function → (places : List ℕ) → ConversionErr → Type 0
 IsLate g places (E.UndefinedValue name v) = IsRefused g places name v
 IsLate g places (E.Unsupported u) = ⊥
+IsLate g places (E.Struct s) = ⊥
 IsLate g places E.NoMemory = Unit {0}

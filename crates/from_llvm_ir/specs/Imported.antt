@@ -25,6 +25,8 @@ use Rattle.dialect_core.specs.Form.{IsFormFunc, HasConstantsInEntry, IsExportabl
 use Rattle.dialect_core.specs.WellFormed.{IsPlainAt, IsWellFormed}
 use Rattle.meaning.specs.Terms.{Match}
 use Rattle.meaning.specs.Setting.{Setting}
+use Rattle.meaning.specs.Renamed.{renamed_module}
+use Rattle.renamed_source.specs.Names.{struct_name}
 use Rattle.meaning.specs.Pairs.{Matched, BothOrNone}
 use Rattle.meaning.specs.Code.{IsDistinctNames}
 use Rattle.meaning.specs.Llvm.{used}
@@ -35,6 +37,7 @@ use Rattle.from_llvm_ir.specs.Order.{IsInverse}
 use Rattle.from_llvm_ir.specs.Walks.{graph_of, HasDominatedUses}
 use Rattle.from_llvm_ir.specs.declared.matching.FunctionBlocks.{FunctionBlocks}
 use Rattle.from_llvm_ir.specs.declared.importing.Imported.{Imported}
+use Rattle.renamed_source.specs.Source.{pairs_of}
 
 -- ---- constants
 
@@ -136,9 +139,9 @@ constants_used d f places = flat_map (λ (b : L.Block). flat_map (constants_in d
 
 -- The function g stands for the function f of the module d: its blocks in the depth-first order of their graph, where
 -- each definition dominates its uses; the constants that it uses once each in order of first use, block by block an
--- operation for each instruction, and under every match that puts its blocks at these places the same shape, whatever the
--- module of the one and that of the other tell their bodies. Names are those that the list gives; the function keeps that
--- of LLVM where its own is another.
+-- operation for each instruction, and under every match that puts its blocks at these places and leaves the names of structs
+-- the same shape, whatever the module of the one and that of the other tell their bodies. Names are those that the list
+-- gives; the function keeps that of LLVM where its own is another.
 pub record ImportedFunction (d : L.ModuleData) (given : List Named) (f : L.Function) (x : FunctionBlocks) (g : Func) : Type 0 where
   pub function : x.function.0 ≡ f.number
   pub places : IsPlaces (length f.blocks) x.places
@@ -156,7 +159,7 @@ pub record ImportedFunction (d : L.ModuleData) (given : List Named) (f : L.Funct
   pub hoisted : List DialectOp
   pub made : Matched Makes constants hoisted
   pub blocks : (i : ℕ) → BothOrNone (IsImportedBlock given hoisted i) (slice_get f.blocks i) (slice_get g.blocks (place_at i x))
-  pub shape : (match : Match) (source made : Setting) → ((b : ℕ) → match.block f.name b ≡ place_at b x) → SameShape match source f made g
+  pub shape : (match : Match) (source made : Setting) → ((s : List ℕ) → match.struct s ≡ s) → ((b : ℕ) → match.block f.name b ≡ place_at b x) → SameShape match source f made g
 
 -- ---- modules
 
@@ -197,6 +200,10 @@ pub record IsBuilding (c : ContextData) (m : ℕ) (body : BlockRef) (d : Dialect
   pub own : IsOwn c m body
   pub below : All (IsBelow (length c.ops) (length c.blocks)) d.functions
 
+-- the source as the import read it: its structs under the names that it gave them
+abbrev pub seen_by : Imported → L.ModuleData → L.ModuleData
+seen_by i d = renamed_module (struct_name (pairs_of i.structs.items)) d
+
 -- the data of an imported module in the context that holds it
 abbrev pub imported_data : ContextData → Imported → DialectModule
 imported_data c i = data_of c i.module.0.0
@@ -216,7 +223,7 @@ pub record BeginsWith (d : L.ModuleData) (given : List Named) : Type 0 where
   pub are : map (λ (g : Named). g.name) given ≡ firsts ++ others
 
 -- The context c holds the dialect module, which has the functions of the source in order, and the match covers the source.
--- Its names are those that one list of names gives. Where no two functions of the source have one name, it keeps every rule
+-- Its names, and those of its structs, are those that one list of names gives. Where no two functions of the source have one name, it keeps every rule
 -- of the dialect.
 pub record IsImported (d : L.ModuleData) (c : ContextData) (i : Imported) : Type 0 where
   pub given : List Named
@@ -225,6 +232,7 @@ pub record IsImported (d : L.ModuleData) (c : ContextData) (i : Imported) : Type
   pub body : BlockRef
   pub building : IsBuilding c i.module.0.0 body (imported_data c i)
   pub name : Gave given d.name (imported_data c i).name
+  pub structs : All (λ (p : List ℕ × List ℕ). Gave given p.0 p.1) (pairs_of i.structs.items)
   pub functions : AreImported d given d.functions i.blocks (imported_data c i).functions
   pub well_formed : IsDistinctNames (map (λ (f : L.Function). f.name) d.functions) → IsWellFormed c i.module.0.0
 

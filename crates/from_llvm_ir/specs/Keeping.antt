@@ -1,5 +1,6 @@
 -- What a call leaves of all that a context held before.
 use Rattle.std.specs.Prelude.{ℕ, ◌≡◌, ◌<◌, ◌≤◌, All, length}
+use Rattle.dialect_types.specs.Trees.{structs_of}
 use Rattle.dialect_core.specs.ContextData.{ContextData}
 use Rattle.dialect_core.specs.Data.{IsTyped, data_of}
 use Rattle.from_llvm_ir.specs.Imported.{IsBelow}
@@ -23,9 +24,14 @@ pub record HasKept (n b : ℕ) (old new : ContextData) : Type 0 where
 
 -- the first n operations and b blocks are still there, where there were n operations; and what they hold is kept, where
 -- the numbers of types were there
-pub record Keeps (n b : ℕ) (old new : ContextData) : Type 0 where
+pub record Leaves (n b : ℕ) (old new : ContextData) : Type 0 where
   pub still : n ≤ length old.ops → IsStill n b old new
   pub kept : IsTyped old → n ≤ length old.ops → HasKept n b old new
+
+-- and no struct with a name has come
+pub record Keeps (n b : ℕ) (old new : ContextData) : Type 0 where
+  pub leaves : Leaves n b old new
+  pub structs : structs_of new.types ≡ structs_of old.types
 
 -- All that the context held stays: its types, its operations and where they stand, its blocks and what they list. So
 -- every module that it held has the data that it had, where the numbers of types were there.

@@ -1,7 +1,9 @@
 -- The definitions that clauses cite.
+pub mod Forward
 pub mod Match
 pub mod Imported
 pub mod Staying
+pub mod Structs
 pub mod Types
 pub mod Keeping
 pub mod Order
@@ -17,7 +19,6 @@ pub mod Importing
 pub mod Naming
 pub mod Walks
 pub mod Refusals
-pub mod Held
 pub mod Graph
 pub mod Uses
 pub mod Alone

@@ -25,8 +25,8 @@ use dialect_core::steps::Steps;
 use dialect_types::attrs::ConstAttr;
 use llvm_core::code::LLVMValue;
 use llvm_core::consts::LLVMConstKind;
-use llvm_core::module::LLVMModule;
 use llvm_core::numbers::{LLVMBasicBlock, LLVMConst, LLVMFunction, LLVMInstRef};
+use renamed_source::source::Source;
 use std::alloc::{AllocError, Global};
 use std::sync::ledger::Ledger;
 use support::items::Items;
@@ -36,7 +36,7 @@ use support::short_list::ShortList;
 fn add_constant<L: Ledger>(
     alloc: Global,
     ctx: &mut Context,
-    source: &LLVMModule,
+    source: &Source<'_>,
     block: BlockRef,
     c: LLVMConst,
     steps: &mut Steps<L>,
@@ -74,7 +74,7 @@ fn add_constant<L: Ledger>(
 fn hoist_constant<L: Ledger>(
     alloc: Global,
     ctx: &mut Context,
-    source: &LLVMModule,
+    source: &Source<'_>,
     values: &mut Values,
     block: BlockRef,
     c: LLVMConst,
@@ -101,7 +101,7 @@ fn hoist_constant<L: Ledger>(
 fn hoist<L: Ledger>(
     alloc: Global,
     ctx: &mut Context,
-    source: &LLVMModule,
+    source: &Source<'_>,
     values: &mut Values,
     block: BlockRef,
     operand: LLVMValue,
@@ -125,7 +125,7 @@ fn hoist<L: Ledger>(
 fn hoist_values<L: Ledger>(
     alloc: Global,
     ctx: &mut Context,
-    source: &LLVMModule,
+    source: &Source<'_>,
     values: &mut Values,
     block: BlockRef,
     operands: &[LLVMValue],
@@ -149,7 +149,7 @@ fn hoist_values<L: Ledger>(
 fn hoist_inst<L: Ledger>(
     alloc: Global,
     ctx: &mut Context,
-    source: &LLVMModule,
+    source: &Source<'_>,
     entries: &Entries,
     values: &mut Values,
     block: BlockRef,
@@ -174,7 +174,7 @@ fn hoist_inst<L: Ledger>(
 fn hoist_block<L: Ledger>(
     alloc: Global,
     ctx: &mut Context,
-    source: &LLVMModule,
+    source: &Source<'_>,
     entries: &Entries,
     values: &mut Values,
     block: BlockRef,
@@ -197,7 +197,7 @@ fn hoist_block<L: Ledger>(
 pub fn hoist_constants<L: Ledger>(
     alloc: Global,
     ctx: &mut Context,
-    source: &LLVMModule,
+    source: &Source<'_>,
     entries: &Entries,
     values: &mut Values,
     block: BlockRef,

@@ -2,7 +2,10 @@
 
 ghost use Rattle.std.specs.Prelude.{◌≡◌};
 ghost use Rattle.from_llvm_ir.specs.declared.conversion_err.ConversionErr.TheVariants.{NoMemory};
+ghost use Rattle.from_llvm_ir.specs.Forward.{of_held, of_struct};
 
+use dialect_types::struct_err::StructErr;
+use held_types::held_structs::HeldErr;
 use kinds::types::OtherType;
 use llvm_core::code::LLVMValue;
 use std::alloc::{AllocError, AllocFailed};
@@ -15,8 +18,6 @@ use thiserror::Error;
 pub enum Unsupported {
     /// A type for which the dialect has none, which the type of a value of a function is, or holds.
     Ty(OtherType),
-    /// A struct with a name, which the type of a value of a function is, or holds; not translated yet.
-    Struct,
 }
 
 /// Why an import refuses a module.
@@ -30,6 +31,10 @@ pub enum ConversionErr {
     /// A part of the module that is not translated.
     #[error("Unsupported")]
     Unsupported(Unsupported),
+    /// The identifier of a struct that values hold is that of a struct of the context with another body: `DifferentBody`. Want
+    /// of memory never stands inside.
+    #[error("Struct")]
+    Struct(StructErr),
     /// Memory is wanting.
     #[error("NoMemory")]
     NoMemory,
@@ -38,6 +43,28 @@ pub enum ConversionErr {
 impl fmt::Debug for ConversionErr {
     fn fmt<W: fmt::Write>(&self, f: &mut fmt::Formatter<W>) -> fmt::Result {
         write!(f, "{self}")
+    }
+}
+
+impl From<HeldErr> for ConversionErr {
+    ghost from_gives = { λ e r. r ≡ of_held e };
+
+    fn from(e: HeldErr) -> ConversionErr {
+        match e {
+            HeldErr::Lacks(of) => ConversionErr::Unsupported(Unsupported::Ty(of)),
+            HeldErr::NoMemory => ConversionErr::NoMemory,
+        }
+    }
+}
+
+impl From<StructErr> for ConversionErr {
+    ghost from_gives = { λ e r. r ≡ of_struct e };
+
+    fn from(e: StructErr) -> ConversionErr {
+        match e {
+            StructErr::NoMemory => ConversionErr::NoMemory,
+            e => ConversionErr::Struct(e),
+        }
     }
 }
 

@@ -10,8 +10,8 @@ ghost use Rattle.from_llvm_ir.specs.Source.{IsSource, LeadsTo, IsSite, IsUsed, A
 
 use crate::parts::{is_phi, operands_of, targets_of};
 use llvm_core::code::{LLVMInst, LLVMValue, PhiEntry};
-use llvm_core::module::LLVMModule;
 use llvm_core::numbers::{LLVMBasicBlock, LLVMFunction, LLVMInstRef};
+use renamed_source::source::Source;
 use std::alloc::{AllocError, Global};
 use std::collections::HashMap;
 use support::short_list::ShortList;
@@ -94,7 +94,7 @@ fn first_for(entries: &[PhiEntry], from: LLVMBasicBlock) -> LLVMValue
 
 /// What a phi takes for a block.
 fn value_for(
-    source: &LLVMModule,
+    source: &Source<'_>,
     entries: &Entries,
     phi: LLVMInstRef,
     from: LLVMBasicBlock,
@@ -111,7 +111,7 @@ fn value_for(
 }
 
 /// Notes what an instruction takes: the entries of a phi that has more than a few.
-fn note_inst(noted: &mut Entries, source: &LLVMModule, i: LLVMInstRef) -> Result<(), AllocError>
+fn note_inst(noted: &mut Entries, source: &Source<'_>, i: LLVMInstRef) -> Result<(), AllocError>
     requires within { i.0 < length source.now.insts }
     requires right { AreRight source.now noted.old }
     ensures right { OnOk result (AreRight source.now noted.new) }
@@ -129,7 +129,7 @@ fn note_inst(noted: &mut Entries, source: &LLVMModule, i: LLVMInstRef) -> Result
 /// Notes what instructions take.
 fn note_insts(
     noted: &mut Entries,
-    source: &LLVMModule,
+    source: &Source<'_>,
     insts: &[LLVMInstRef],
 ) -> Result<(), AllocError>
     requires within { All (λ i. i.0 < length source.now.insts) insts.now }
@@ -147,7 +147,7 @@ fn note_insts(
 /// What each phi of a function that has more than a few entries takes for each block.
 pub fn entries_of(
     alloc: Global,
-    source: &LLVMModule,
+    source: &Source<'_>,
     f: LLVMFunction,
 ) -> Result<Entries, AllocError>
     requires { (g : Function) × IsSource source.now f g }
@@ -164,7 +164,7 @@ pub fn entries_of(
 #[inline(always)]
 pub fn edge_values(
     alloc: Global,
-    source: &LLVMModule,
+    source: &Source<'_>,
     entries: &Entries,
     from: LLVMBasicBlock,
     to: LLVMBasicBlock,
@@ -187,7 +187,7 @@ pub fn edge_values(
 /// The operands of an instruction that is no phi, and then what its edges pass.
 pub fn used_values(
     alloc: Global,
-    source: &LLVMModule,
+    source: &Source<'_>,
     entries: &Entries,
     from: LLVMBasicBlock,
     i: LLVMInstRef,

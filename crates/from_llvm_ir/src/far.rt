@@ -6,8 +6,8 @@
 ghost use Rattle.std.specs.Prelude.{◌<◌, All, length};
 
 use llvm_core::code::{LLVMInst, LLVMValue, PhiEntry};
-use llvm_core::module::LLVMModule;
 use llvm_core::numbers::{LLVMBasicBlock, LLVMFunction, LLVMInstRef};
+use renamed_source::source::Source;
 
 /// The numbers of the instructions of a block: from a first on, up to an end. Numbers that do not count on are none.
 #[derive(Clone, Copy)]
@@ -92,7 +92,7 @@ impl Near {
 }
 
 /// How many uses of a block may be far.
-fn count_block(source: &LLVMModule, block: LLVMBasicBlock, entry: Span) -> usize
+fn count_block(source: &Source<'_>, block: LLVMBasicBlock, entry: Span) -> usize
     requires { block.0 < length source.now.blocks }
 {
     let insts = source.instructions(block);
@@ -106,7 +106,7 @@ fn count_block(source: &LLVMModule, block: LLVMBasicBlock, entry: Span) -> usize
 }
 
 /// Whether few uses of a function may be far.
-pub fn has_few_far_uses(source: &LLVMModule, f: LLVMFunction) -> bool
+pub fn has_few_far_uses(source: &Source<'_>, f: LLVMFunction) -> bool
     requires { f.0 < length source.now.functions }
 {
     let blocks = source.blocks(f);

@@ -41,8 +41,8 @@ use dialect_core::numbers::{BlockRef, FuncOp};
 use dialect_core::steps::Steps;
 use dialect_types::identifier::Identifier;
 use dialect_types::legaliser::Legaliser;
-use llvm_core::module::LLVMModule;
 use llvm_core::numbers::{LLVMBasicBlock, LLVMFunction};
+use renamed_source::source::Source;
 use std::alloc::{AllocError, Global};
 use std::sync::ledger::Ledger;
 use support::number_map::NumberMap;
@@ -51,7 +51,7 @@ use support::number_map::NumberMap;
 fn add_entry(
     alloc: Global,
     ctx: &mut Context,
-    source: &LLVMModule,
+    source: &Source<'_>,
     f: LLVMFunction,
     func: FuncOp,
 ) -> Result<BlockRef, AllocError>
@@ -70,7 +70,7 @@ fn add_later_block(
     alloc: Global,
     ctx: &mut Context,
     names: &mut Legaliser,
-    source: &LLVMModule,
+    source: &Source<'_>,
     func: FuncOp,
     from: LLVMBasicBlock,
 ) -> Result<BlockRef, AllocError>
@@ -91,7 +91,7 @@ fn add_blocks(
     alloc: Global,
     ctx: &mut Context,
     names: &mut Legaliser,
-    source: &LLVMModule,
+    source: &Source<'_>,
     f: LLVMFunction,
     func: FuncOp,
     order: &[u32],
@@ -118,7 +118,7 @@ fn add_blocks(
 
 /// How many constants of a module get a slot while a function is imported: all of them, where the function is long enough to use
 /// many of them. A text that is read has the last constant first, so that their numbers count down.
-fn const_slots(source: &LLVMModule, f: LLVMFunction) -> usize
+fn const_slots(source: &Source<'_>, f: LLVMFunction) -> usize
     requires { f.0 < length source.now.functions }
 {
     let mut insts = 0usize;
@@ -157,7 +157,7 @@ fn import_body<L: Ledger>(
     alloc: Global,
     ctx: &mut Context,
     names: &mut Legaliser,
-    source: &LLVMModule,
+    source: &Source<'_>,
     f: LLVMFunction,
     func: FuncOp,
     order: &[u32],
@@ -205,7 +205,7 @@ fn import_body<L: Ledger>(
 fn declare<L: Ledger>(
     alloc: Global,
     ctx: &mut Context,
-    source: &LLVMModule,
+    source: &Source<'_>,
     f: LLVMFunction,
     name: &Identifier,
     body: BlockRef,
@@ -227,7 +227,7 @@ fn declare<L: Ledger>(
 /// The graph of a function, made ready for questions about dominance: by a tree where they are many.
 fn dominance_of(
     alloc: Global,
-    source: &LLVMModule,
+    source: &Source<'_>,
     f: LLVMFunction,
     succs: Succs,
 ) -> Result<Dominance, AllocError>
@@ -246,7 +246,7 @@ fn dominance_of(
 /// uses the result of an instruction where it is not defined: `UndefinedValue`.
 fn walked_order(
     alloc: Global,
-    source: &LLVMModule,
+    source: &Source<'_>,
     f: LLVMFunction,
 ) -> Result<Vec<u32>, ConversionErr>
     requires { (g : Function) × IsSource source.now f g }
@@ -271,7 +271,7 @@ fn walked_order(
 /// it is not defined: `UndefinedValue`. Where the numbers of one block tell that none is, nothing is looked up.
 fn checked_order(
     alloc: Global,
-    source: &LLVMModule,
+    source: &Source<'_>,
     f: LLVMFunction,
 ) -> Result<Vec<u32>, ConversionErr>
     requires { (g : Function) × IsSource source.now f g }
@@ -292,7 +292,7 @@ pub fn import_function<L: Ledger>(
     alloc: Global,
     ctx: &mut Context,
     names: &mut Legaliser,
-    source: &LLVMModule,
+    source: &Source<'_>,
     f: LLVMFunction,
     name: &Identifier,
     body: BlockRef,

@@ -30,8 +30,8 @@ use dialect_core::steps::Steps;
 use dialect_types::identifier::Identifier;
 use dialect_types::legaliser::Legaliser;
 use llvm_core::code::LLVMValue;
-use llvm_core::module::LLVMModule;
 use llvm_core::numbers::{LLVMBasicBlock, LLVMFunction, LLVMInstRef};
+use renamed_source::source::Source;
 use std::alloc::{AllocError, Global};
 use std::sync::ledger::Ledger;
 use support::items::Items;
@@ -65,7 +65,7 @@ fn import_op<L: Ledger>(
     alloc: Global,
     ctx: &mut Context,
     names: &mut Legaliser,
-    source: &LLVMModule,
+    source: &Source<'_>,
     targets: &Targets,
     entries: &Entries,
     values: &mut Values,
@@ -107,7 +107,7 @@ fn import_inst<L: Ledger>(
     alloc: Global,
     ctx: &mut Context,
     names: &mut Legaliser,
-    source: &LLVMModule,
+    source: &Source<'_>,
     targets: &Targets,
     entries: &Entries,
     values: &mut Values,
@@ -139,7 +139,7 @@ pub fn import_insts<L: Ledger>(
     alloc: Global,
     ctx: &mut Context,
     names: &mut Legaliser,
-    source: &LLVMModule,
+    source: &Source<'_>,
     targets: &Targets,
     entries: &Entries,
     values: &mut Values,
@@ -180,7 +180,7 @@ pub fn import_blocks<L: Ledger>(
     alloc: Global,
     ctx: &mut Context,
     names: &mut Legaliser,
-    source: &LLVMModule,
+    source: &Source<'_>,
     targets: &Targets,
     entries: &Entries,
     values: &mut Values,

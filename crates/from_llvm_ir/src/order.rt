@@ -11,8 +11,8 @@ ghost use Rattle.from_llvm_ir.specs.Walks.{graph_of, place_of_block};
 
 use crate::parts::targets_of;
 use block_order::succs::Succs;
-use llvm_core::module::LLVMModule;
 use llvm_core::numbers::{LLVMBasicBlock, LLVMFunction, LLVMInstRef};
+use renamed_source::source::Source;
 use std::alloc::{AllocError, Global};
 use support::number_map::NumberMap;
 use support::short_list::ShortList;
@@ -44,7 +44,7 @@ pub fn text_place(places: &Places, block: LLVMBasicBlock) -> u32
 /// The place of each block of a function.
 pub fn text_places(
     alloc: Global,
-    source: &LLVMModule,
+    source: &Source<'_>,
     f: LLVMFunction,
 ) -> Result<Places, AllocError>
     requires { (g : Function) × IsSource source.now f g }
@@ -60,7 +60,7 @@ pub fn text_places(
 
 /// Appends the places of the blocks that an instruction leads to.
 fn push_targets(
-    source: &LLVMModule,
+    source: &Source<'_>,
     places: &Places,
     i: LLVMInstRef,
     row: &mut Vec<u32>,
@@ -78,7 +78,7 @@ fn push_targets(
 
 /// Appends the row of a block to a graph: the places of the blocks that it leads to, which are gathered in a lent list.
 fn push_row(
-    source: &LLVMModule,
+    source: &Source<'_>,
     places: &Places,
     block: LLVMBasicBlock,
     row: &mut Vec<u32>,
@@ -98,7 +98,7 @@ fn push_row(
 /// The graph of a function: for each block, in the order of the text, the places of those that it leads to.
 pub fn graph(
     alloc: Global,
-    source: &LLVMModule,
+    source: &Source<'_>,
     f: LLVMFunction,
     places: &Places,
 ) -> Result<Succs, AllocError>

@@ -16,8 +16,8 @@ use crate::values::{Values, known_values};
 use dialect_core::numbers::BlockRef;
 use dialect_core::ops::Successor;
 use llvm_core::code::LLVMInst;
-use llvm_core::module::LLVMModule;
 use llvm_core::numbers::{LLVMBasicBlock, LLVMFunction};
+use renamed_source::source::Source;
 use std::alloc::Global;
 use support::number_map::NumberMap;
 
@@ -38,7 +38,7 @@ pub fn target_of(targets: &Targets, block: LLVMBasicBlock) -> BlockRef
 /// The edge of the dialect for one of the source.
 fn known_edge(
     alloc: Global,
-    source: &LLVMModule,
+    source: &Source<'_>,
     values: &Values,
     targets: &Targets,
     entries: &Entries,
@@ -58,7 +58,7 @@ fn known_edge(
 /// The edges of the dialect for those of the source, from a block to others.
 fn known_edges(
     alloc: Global,
-    source: &LLVMModule,
+    source: &Source<'_>,
     values: &Values,
     targets: &Targets,
     entries: &Entries,
@@ -79,7 +79,7 @@ fn known_edges(
 /// The edges of the dialect for those of an instruction of a block, in order.
 pub fn known_successors(
     alloc: Global,
-    source: &LLVMModule,
+    source: &Source<'_>,
     values: &Values,
     targets: &Targets,
     entries: &Entries,

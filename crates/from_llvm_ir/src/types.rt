@@ -9,19 +9,21 @@ ghost use Rattle.llvm_core.specs.Data.{trees_of};
 ghost use Rattle.kinds.specs.Types.{params_of};
 ghost use Rattle.kinds.specs.Fitting.{is_held, is_made, is_nothing};
 ghost use Rattle.kinds.specs.Held.{own_type, IsHeld, IsHeldResult, IsShallow};
-ghost use Rattle.dialect_types.specs.Trees.{type_at, type_tree, type_trees, HasFitParts, HasPartsBelow};
+ghost use Rattle.dialect_types.specs.Trees.{type_at, type_tree, type_trees, is_named, HasFitParts, HasPartsBelow};
 ghost use Rattle.from_llvm_ir.specs.Imported.{phis_of};
-ghost use Rattle.from_llvm_ir.specs.Types.{GrowsTypes};
+ghost use Rattle.from_llvm_ir.specs.Types.{GrowsTypes, IsNamedAs};
 ghost use Rattle.from_llvm_ir.specs.Source.{IsSource, IsBlockOf, IsTypeOf};
 
 use crate::parts::is_phi;
 use dialect_core::context::Context;
+use dialect_types::identifier::Identifier;
 use dialect_types::types::{TypeHandle, TypeKind};
 use kinds::fitting::is_nothing;
 use llvm_core::code::LLVMValue;
-use llvm_core::module::{LLVMModule, shape_of};
+use llvm_core::module::shape_of;
 use llvm_core::numbers::{LLVMBasicBlock, LLVMFunction, LLVMInstRef, LLVMType};
 use llvm_core::types::LLVMTypeKind;
+use renamed_source::source::Source;
 use std::alloc::{AllocError, Global};
 use support::items::Items;
 
@@ -43,11 +45,12 @@ fn among_first(ctx: &Context, kind: &TypeKind) -> Option<TypeHandle>
     None
 }
 
-/// The number of a type of the context, new or old.
+/// The number of a type of the context that is no struct with a name, new or old.
 fn intern(ctx: &mut Context, kind: TypeKind) -> Result<TypeHandle, AllocError>
     requires parts { HasPartsBelow (length ctx.old.types) kind }
     requires fit { HasFitParts (type_trees ctx.old.types) kind }
     requires nesting { IsShallow (type_tree (type_trees ctx.old.types) kind) }
+    requires plain { is_named kind ≡ false }
     ensures grown { GrowsTypes ctx.old ctx.new }
     ensures ty { IfOk result (λ t. type_at (type_trees ctx.new.types) t ≡ type_tree (type_trees ctx.old.types) kind) }
     ensures within { IfOk result (λ t. t.0 < length ctx.new.types) }
@@ -63,6 +66,7 @@ fn plain_kind(kind: &LLVMTypeKind) -> TypeKind
     requires held { (is_nothing (shape_of kind.now) || is_held (shape_of kind.now)) ≡ true }
     requires plain { is_made (shape_of kind.now) ≡ false }
     ensures parts { (n : ℕ) → HasPartsBelow n result }
+    ensures plain { is_named result ≡ false }
     ensures tree { (us : List L.TypeTree) → (ts : List L.TypeTree) → type_tree ts result ≡ L.type_tree us kind.now }
 {
     match kind {
@@ -79,20 +83,47 @@ fn plain_kind(kind: &LLVMTypeKind) -> TypeKind
     }
 }
 
-/// The kind that stands for that of a type that is translated, or of void, once its parts are imported: a line for each
-/// that has parts.
+/// The struct of a name, which the context has: an import makes those that it translates before any function. One that is not
+/// there is answered as want of memory.
+fn struct_named(ctx: &Context, name: &Identifier) -> Result<TypeHandle, AllocError>
+    ensures ty { IfOk result (λ t. type_at (type_trees ctx.now.types) t ≡ L.NamedType name.now) }
+    ensures within { IfOk result (λ t. t.0 < length ctx.now.types) }
+{
+    match ctx.types().named(name.as_str()) {
+        Some(ty) => Ok(ty),
+        None => Err(AllocError),
+    }
+}
+
+/// The struct that stands for the one that a type names.
+fn made_struct(ctx: &Context, source: &Source<'_>, ty: LLVMType) -> Result<TypeHandle, AllocError>
+    requires sound { IsModule source.now }
+    requires within { ty.0 < length source.now.types }
+    ensures ty { IfOk result (λ t. type_at (type_trees ctx.now.types) t ≡ L.type_at (trees_of source.now).types ty) }
+    ensures within { IfOk result (λ t. t.0 < length ctx.now.types) }
+{
+    match source.struct_name(ty) {
+        Some(name) => struct_named(ctx, name),
+        None => Err(AllocError),
+    }
+}
+
+/// The kind that stands for that of a type that is translated and no struct with a name, or of void, once its parts are
+/// imported: a line for each that has parts.
 #[cycle(import_plain)]
 fn import_kind(
     alloc: Global,
     ctx: &mut Context,
-    source: &LLVMModule,
+    source: &Source<'_>,
     ty: LLVMType,
 ) -> Result<TypeKind, AllocError>
     requires sound { IsModule source.now }
     requires within { ty.0 < length source.now.types }
     requires held { IsHeldResult (L.type_at (trees_of source.now).types ty) }
+    requires unnamed { (n : List ℕ) → ¬ IsNamedAs source.now ty n }
     ensures grown { GrowsTypes ctx.old ctx.new }
     ensures parts { IfOk result (λ k. HasPartsBelow (length ctx.new.types) k) }
+    ensures plain { IfOk result (λ k. is_named k ≡ false) }
     ensures tree { IfOk result (λ k. type_tree (type_trees ctx.new.types) k ≡ L.type_at (trees_of source.now).types ty) }
 {
     match source.type_kind(ty) {
@@ -120,7 +151,7 @@ fn import_kind(
 pub fn import_plain(
     alloc: Global,
     ctx: &mut Context,
-    source: &LLVMModule,
+    source: &Source<'_>,
     ty: LLVMType,
 ) -> Result<TypeHandle, AllocError>
     requires sound { IsModule source.now }
@@ -130,16 +161,19 @@ pub fn import_plain(
     ensures ty { IfOk result (λ t. type_at (type_trees ctx.new.types) t ≡ L.type_at (trees_of source.now).types ty) }
     ensures within { IfOk result (λ t. t.0 < length ctx.new.types) }
 {
+    if let LLVMTypeKind::Named(_) = source.type_kind(ty) {
+        return made_struct(ctx, source, ty);
+    }
     let kind = import_kind(alloc, ctx, source, ty)?;
     intern(ctx, kind)
 }
 
 /// The types that stand for types that are translated.
 #[cycle(import_plain)]
-fn import_all(
+pub(crate) fn import_all(
     alloc: Global,
     ctx: &mut Context,
-    source: &LLVMModule,
+    source: &Source<'_>,
     types: &[LLVMType],
 ) -> Result<Vec<TypeHandle>, AllocError>
     requires sound { IsModule source.now }
@@ -160,7 +194,7 @@ fn import_all(
 pub fn import_params(
     alloc: Global,
     ctx: &mut Context,
-    source: &LLVMModule,
+    source: &Source<'_>,
     f: LLVMFunction,
 ) -> Result<Vec<TypeHandle>, AllocError>
     requires { (g : L.Function) × IsSource source.now f g }
@@ -178,7 +212,7 @@ pub fn import_params(
 fn import_result(
     alloc: Global,
     ctx: &mut Context,
-    source: &LLVMModule,
+    source: &Source<'_>,
     f: LLVMFunction,
 ) -> Result<TypeHandle, AllocError>
     requires { (g : L.Function) × IsSource source.now f g }
@@ -196,7 +230,7 @@ fn import_result(
 pub fn import_function_type(
     alloc: Global,
     ctx: &mut Context,
-    source: &LLVMModule,
+    source: &Source<'_>,
     f: LLVMFunction,
 ) -> Result<TypeHandle, AllocError>
     requires { (g : L.Function) × IsSource source.now f g }
@@ -218,7 +252,7 @@ pub fn import_function_type(
 pub fn import_result_type(
     alloc: Global,
     ctx: &mut Context,
-    source: &LLVMModule,
+    source: &Source<'_>,
     i: LLVMInstRef,
 ) -> Result<Option<TypeHandle>, AllocError>
     requires { (t : L.TypeTree) × IsTypeOf source.now i t }
@@ -237,7 +271,7 @@ pub fn import_result_type(
 pub fn import_phi_types(
     alloc: Global,
     ctx: &mut Context,
-    source: &LLVMModule,
+    source: &Source<'_>,
     block: LLVMBasicBlock,
 ) -> Result<Vec<TypeHandle>, AllocError>
     requires { (f : LLVMFunction) × (g : L.Function) × (place : ℕ) × (b : L.Block) × IsSource source.now f g × IsBlockOf source.now g block place b }
@@ -255,7 +289,7 @@ pub fn import_phi_types(
 }
 
 /// How many parameters a function has.
-pub fn param_count(source: &LLVMModule, f: LLVMFunction) -> usize
+pub fn param_count(source: &Source<'_>, f: LLVMFunction) -> usize
     requires { (g : L.Function) × IsSource source.now f g }
     ensures { (g : L.Function) → IsSource source.now f g → result ≡ length g.params }
 {

@@ -11,8 +11,8 @@ use crate::parts::operands_of;
 use dialect_core::numbers::BlockRef;
 use dialect_core::ops::Value;
 use llvm_core::code::{LLVMInst, LLVMValue};
-use llvm_core::module::LLVMModule;
 use llvm_core::numbers::{LLVMConst, LLVMFunction, LLVMInstRef};
+use renamed_source::source::Source;
 use std::alloc::{AllocError, Global};
 use support::number_map::NumberMap;
 use support::short_list::ShortList;
@@ -99,7 +99,7 @@ impl Values {
 }
 
 /// The refusal of the result of an instruction that is used where it is not defined, or not known yet.
-pub fn undefined_value(alloc: Global, source: &LLVMModule, i: LLVMInstRef) -> ConversionErr
+pub fn undefined_value(alloc: Global, source: &Source<'_>, i: LLVMInstRef) -> ConversionErr
     requires { i.0 < length source.now.insts }
     ensures { IsRefusalOf source.now i result }
 {
@@ -113,7 +113,7 @@ pub fn undefined_value(alloc: Global, source: &LLVMModule, i: LLVMInstRef) -> Co
 #[inline(always)]
 fn known_value(
     alloc: Global,
-    source: &LLVMModule,
+    source: &Source<'_>,
     values: &Values,
     value: LLVMValue,
 ) -> Result<Value, ConversionErr>
@@ -134,7 +134,7 @@ fn known_value(
 #[inline(never)]
 fn known_each(
     alloc: Global,
-    source: &LLVMModule,
+    source: &Source<'_>,
     values: &Values,
     used: &[LLVMValue],
 ) -> Result<ShortList<Value>, ConversionErr>
@@ -153,7 +153,7 @@ fn known_each(
 #[inline(always)]
 pub fn known_values(
     alloc: Global,
-    source: &LLVMModule,
+    source: &Source<'_>,
     values: &Values,
     used: &[LLVMValue],
 ) -> Result<ShortList<Value>, ConversionErr>
@@ -176,7 +176,7 @@ pub fn known_values(
 /// The values that stand for the operands of an instruction that is no phi, in order.
 pub fn known_operands(
     alloc: Global,
-    source: &LLVMModule,
+    source: &Source<'_>,
     values: &Values,
     inst: &LLVMInst,
 ) -> Result<ShortList<Value>, ConversionErr>

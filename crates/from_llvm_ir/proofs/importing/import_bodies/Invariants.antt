@@ -1,4 +1,4 @@
--- What the loop of `importing::import_functions` keeps.
+-- What the loop of `importing::import_bodies` keeps.
 use Rattle.std.proofs.Common.{ℕ, List, length, ◌≤◌}
 use Rattle.llvm_core.specs.Data.{data_of}
 use Rattle.dialect_types.specs.Legalised.{Named, GoesOn}
@@ -7,7 +7,7 @@ use Rattle.from_llvm_ir.specs.Naming.{ForLater}
 use Rattle.from_llvm_ir.specs.Importing.{IsImportedTo}
 use Rattle.from_llvm_ir.specs.Keeping.{Keeps}
 use Rattle.from_llvm_ir.specs.Building.{module_named}
-use Rattle.from_llvm_ir.proofs.importing.import_functions.Given as goal
+use Rattle.from_llvm_ir.proofs.importing.import_bodies.Given as goal
 
 abbrev pub invariant-loop-f : goal.invariant-loop-f
 invariant-loop-f g l = record {

@@ -1,4 +1,4 @@
--- What `importing::import_functions` owes besides what the check finds.
+-- What `importing::import_bodies` owes besides what the check finds.
 use Rattle.std.proofs.Common.{ℕ, List, ◌+◌, sym, subst, arith}
 use Rattle.llvm_core.specs.Data.{data_of}
 use Rattle.llvm_core.proofs.DataLemmas.{function_count}
@@ -11,20 +11,20 @@ use Rattle.from_llvm_ir.proofs.SourceLaws.{source_at}
 use Rattle.from_llvm_ir.proofs.ForwardLaws.{passed_on}
 use Rattle.from_llvm_ir.proofs.ModuleLaws.{imported_none, imported_more, function_cause, name_given, names_long}
 use Rattle.from_llvm_ir.proofs.KeepLaws.{keeps_none, keeps_then}
-use Rattle.from_llvm_ir.proofs.importing.import_functions.Goals as goal
-
-pub index-name-requires : goal.index-name-requires
-index-name-requires g c =
-    let long = names_long (data_of c.args.source.now).functions c.function_names.new.names c.in_ok-given.given.items c.in_ok-given.ensures.given c.loop-f.f (omega (arith, function_count c.args.source.now, c.functions-f-end.ensures.len, c.loop-f-test.true)) in
-    omega (arith, c.in_ok-given.given.ok.0, long)
+use Rattle.from_llvm_ir.proofs.importing.import_bodies.Goals as goal
 
 pub import_function-requires-clause-source : goal.import_function-requires-clause-source
 import_function-requires-clause-source g c = source_at c.args.source.now c.loop-f.f c.functions-f-end.ensures.sound c.requires.form c.requires.held (omega (arith, c.functions-f-end.ensures.len, c.loop-f-test.true))
 
 pub import_function-requires-clause-name : goal.import_function-requires-clause-name
 import_function-requires-clause-name g c = λ f h.
-    gave_kept c.function_names.new.names c.loop-f.names f.name c.index-name.result.now c.loop-f.invariant.grown
-    (name_given c.function_names.new.names (data_of c.args.source.now).functions c.in_ok-given.given.items c.loop-f.f f c.index-name.result.now c.in_ok-given.ensures.given h.at c.index-name.ensures)
+    gave_kept c.args.names.now c.loop-f.names f.name c.index-given-f.result c.loop-f.invariant.grown
+    (name_given c.args.names.now (data_of c.args.source.now).functions c.args.given.now c.loop-f.f f c.index-given-f.result c.requires.given h.at c.index-given-f.is)
+
+pub bounds-given-f : goal.bounds-given-f
+bounds-given-f g c =
+    let long = names_long (data_of c.args.source.now).functions c.args.names.now c.args.given.now c.requires.given c.loop-f.f (omega (arith, function_count c.args.source.now, c.functions-f-end.ensures.len, c.loop-f-test.true)) in
+    omega (arith, long)
 
 pub import_function-requires-clause-module : goal.import_function-requires-clause-module
 import_function-requires-clause-module g c = let b = c.requires.building in let h = c.loop-f.invariant.imported b.0 b.1 b.2 c.loop-f.names (goes_same c.loop-f.names) in (b.0, h.so_far, h.building)
@@ -32,14 +32,14 @@ import_function-requires-clause-module g c = let b = c.requires.building in let 
 pub returns-in_err-import_function-clause-err : goal.returns-in_err-import_function-clause-err
 returns-in_err-import_function-clause-err g c =
     let s = source_at c.args.source.now c.loop-f.f c.functions-f-end.ensures.sound c.requires.form c.requires.held (omega (arith, c.functions-f-end.ensures.len, c.loop-f-test.true)) in
-    passed_on c.from_residual-in_err-import_function.result c.in_err-import_function.field-0.0 _ c.from_residual-in_err-import_function.ensures.1
+    passed_on c.from_residual.result c.in_err-import_function.field-0.0 _ c.from_residual.ensures.1
     (function_cause c.args.source.now (record { 0 = c.loop-f.f }) s.0 c.in_err-import_function.field-0.0 s.1 (c.in_err-import_function.ensures.err s.0 s.1))
 
 pub loop-f-init : goal.loop-f-init
 loop-f-init g c = record {
   within = omega arith;
   imported = λ m name h given on. subst (λ (bs : List FunctionBlocks). IsImportedTo (data_of c.args.source.now) given 0 c.args.ctx.now m c.args.body name bs) (sym c.new-blocks.ensures) (imported_none (data_of c.args.source.now) given c.args.ctx.now m c.args.body name h);
-  grown = goes_same c.function_names.new.names;
+  grown = goes_same c.args.names.now;
   kept = λ m name h n b before behind. keeps_none n b c.args.ctx.now;
 }
 
@@ -54,7 +54,7 @@ loop-f-preserved g c =
           subst (λ (bs : List FunctionBlocks). IsImportedTo (data_of c.args.source.now) given (c.loop-f.f + 1) c.import_function.new.ctx m c.args.body name bs) (sym c.in_ok-push.ensures.ok)
           (imported_more (data_of c.args.source.now) given c.loop-f.f s.0 c.loop-f.ctx c.import_function.new.ctx m c.args.body name c.loop-f.blocks x so s.1.at
           (c.in_ok-import_function.ensures.ok s.0 s.1 m so.so_far so.building given on));
-      grown = goes_then c.function_names.new.names c.loop-f.names c.import_function.new.names c.loop-f.invariant.grown c.import_function.ensures.grows;
+      grown = goes_then c.args.names.now c.loop-f.names c.import_function.new.names c.loop-f.invariant.grown c.import_function.ensures.grows;
       kept = λ m name h n b before behind.
           let so = c.loop-f.invariant.imported m name h c.loop-f.names (goes_same c.loop-f.names) in
           keeps_then n b c.args.ctx.now c.loop-f.ctx c.import_function.new.ctx (c.loop-f.invariant.kept m name h n b before behind) (c.import_function.ensures.kept m so.so_far so.building n b before behind);
@@ -76,28 +76,19 @@ returns-in_err-push-clause-kept g c = λ m name h n b before behind.
     let so = c.loop-f.invariant.imported m name h c.loop-f.names (goes_same c.loop-f.names) in
     keeps_then n b c.args.ctx.now c.loop-f.ctx c.import_function.new.ctx (c.loop-f.invariant.kept m name h n b before behind) (c.import_function.ensures.kept m so.so_far so.building n b before behind)
 
-pub returns-in_err-given-clause-err : goal.returns-in_err-given-clause-err
-returns-in_err-given-clause-err g c = passed_on c.from_residual.result E.NoMemory _ c.from_residual.ensures.1 tt
-
 pub returns-in_err-push-clause-err : goal.returns-in_err-push-clause-err
 returns-in_err-push-clause-err g c = passed_on c.from_residual-in_err-push.result E.NoMemory _ c.from_residual-in_err-push.ensures.1 tt
 
 pub returns-clause-kept : goal.returns-clause-kept
 returns-clause-kept g c = c.loop-f.invariant.kept
 
-pub returns-in_err-given-clause-grows : goal.returns-in_err-given-clause-grows
-returns-in_err-given-clause-grows g c = c.function_names.ensures.grows
-
 pub returns-in_err-import_function-clause-grows : goal.returns-in_err-import_function-clause-grows
 returns-in_err-import_function-clause-grows g c =
-    goes_then c.args.names.now c.function_names.new.names c.import_function.new.names c.function_names.ensures.grows (goes_then c.function_names.new.names c.loop-f.names c.import_function.new.names c.loop-f.invariant.grown c.import_function.ensures.grows)
+    goes_then c.args.names.now c.loop-f.names c.import_function.new.names c.loop-f.invariant.grown c.import_function.ensures.grows
 
 pub returns-in_err-push-clause-grows : goal.returns-in_err-push-clause-grows
 returns-in_err-push-clause-grows g c =
-    goes_then c.args.names.now c.function_names.new.names c.import_function.new.names c.function_names.ensures.grows (goes_then c.function_names.new.names c.loop-f.names c.import_function.new.names c.loop-f.invariant.grown c.import_function.ensures.grows)
-
-pub returns-clause-met : goal.returns-clause-met
-returns-clause-met g c = record { between = c.function_names.new.names; met = c.in_ok-given.ensures.met; more = c.loop-f.invariant.grown }
+    goes_then c.args.names.now c.loop-f.names c.import_function.new.names c.loop-f.invariant.grown c.import_function.ensures.grows
 
 pub returns-clause-grows : goal.returns-clause-grows
-returns-clause-grows g c = goes_then c.args.names.now c.function_names.new.names c.loop-f.names c.function_names.ensures.grows c.loop-f.invariant.grown
+returns-clause-grows g c = c.loop-f.invariant.grown
