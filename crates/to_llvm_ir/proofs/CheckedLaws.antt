@@ -1,26 +1,34 @@
 -- A module that an export made is of the form and checked, where its names differ and each block with arguments is an edge's target.
-use Rattle.std.proofs.Common.{ℕ, ◌^◌, ◌<◌, false, List, [], ◌∷◌, ◌++◌, All, length, map, sym, subst, arith}
+use Rattle.std.proofs.Common.{ℕ, suc, ◌≡◌, ◌^◌, ◌<◌, List, [], ◌∷◌, ◌++◌, Some, All, length, map, slice_get, refl, sym, subst}
 use Rattle.std.specs.List.{flat_map}
-use Rattle.std.specs.Option.{option_map_or}
 use Rattle.std.proofs.lemmas.List.{map-append}
-use Rattle.std.proofs.lemmas.List.Elements.{All-nil, All-cons, All-head, All-tail, All-append, All-weaker}
-use Rattle.kinds.specs.Types.{TypeTree, NamedType, count_types, types_list, result_of, params_of}
-use Rattle.kinds.specs.Held.{IsShallow, IsHeldResult}
-use Rattle.kinds.specs.Structs.{StructBody, Struct, IsFormStruct, IsNested}
-use Rattle.kinds.proofs.NestLaws.{held_result_nested, function_nested}
-use Rattle.block_order.proofs.ListLemmas.{all-left}
+use Rattle.std.proofs.lemmas.List.Elements.{All-nil, All-cons, All-head, All-tail, All-append}
+use Rattle.kinds.specs.declared.types.OtherType.{OtherType}
+use Rattle.kinds.specs.Types.{TypeTree, VoidType, RefusedType, NamedType, FunctionType, types_list, parts_of, result_of, params_of}
+use Rattle.kinds.specs.Structs.{Struct, IsFormStruct, IsNested, Holds, Itself, InPart, InField}
+use Rattle.kinds.proofs.NestLaws.{void_nested}
+use Rattle.held_types.specs.Held.{AreHeld}
 use Rattle.llvm_core.specs.Module.{Module}
 use Rattle.support.specs.Interned.{IsDistinctList}
-use Rattle.support.proofs.ListLaws.{distinct_nil}
+use Rattle.support.proofs.ListLaws.{all_from}
 use Rattle.llvm_core.specs.Data as L
-use Rattle.llvm_core.specs.Data.{Placed, data_of, placed_in}
-use Rattle.llvm_core.specs.Form.{IsForm, IsFormFunction, IsHeldFunction, AreHeld, IsFewIn, HasDistinctNames, HasFew, local_names}
+use Rattle.llvm_core.specs.Data.{Placed, ModuleData, data_of, placed_in}
+use Rattle.llvm_core.specs.Form.{IsForm, IsFormFunction, IsFewIn, HasDistinctNames, HasFew, local_names, value_types}
+use Rattle.dialect_types.specs.Trees.{structs_of, IsStored}
+use Rattle.dialect_types.proofs.StructLaws.{store_lacks_none, stored_structs, stored_apart}
+use Rattle.dialect_core.specs.ContextData.{ContextData}
 use Rattle.dialect_core.specs.Data as D
 use Rattle.dialect_core.specs.Form.{HasTargets}
+use Rattle.dialect_core.proofs.NestedLaws.{names_hold, data_nested}
 use Rattle.meaning.specs.Pairs.{Matched}
 use Rattle.meaning.specs.Code.{IsDistinctNames}
 use Rattle.to_llvm_ir.specs.Exported.{ExportedFunction, IsExported}
+use Rattle.to_llvm_ir.specs.Functions.{IsMadeOf}
+use Rattle.to_llvm_ir.specs.Structs.{HasFewFields}
 use Rattle.to_llvm_ir.proofs.CodeLaws.{names_exported}
+use Rattle.to_llvm_ir.proofs.HeldLaws.{HasTypes, all_types, results_of}
+use Rattle.to_llvm_ir.proofs.ListLaws.{all_at}
+use Rattle.to_llvm_ir.proofs.StructLaws.{structs_nested}
 
 forms : (gs : List D.Func) (fs : List L.Function) → All HasTargets gs → Matched ExportedFunction gs fs → All IsFormFunction fs
 forms [] [] targets h = All-nil IsFormFunction
@@ -34,83 +42,97 @@ each P all (g ∷ gs) (f ∷ fs) h = All-cons P f fs (all g f h.0) (each P all g
 each P all [] (f ∷ fs) h = absurd h
 each P all (g ∷ gs) [] h = absurd h
 
--- ---- how deep the types in use nest
+-- ---- the types in use
 
-behind_all : {X : Type 0} (P : X → Type 0) (xs ys : List X) → All P (xs ++ ys) → All P ys
-behind_all P [] ys all = all
-behind_all P (x ∷ xs) ys all = behind_all P xs ys (All-tail P x (xs ++ ys) all)
+module _ (P : TypeTree → Type 0) (void : P VoidType) where
+  types_have : (fs : List L.Function) → All (HasTypes P void) fs → All P (map (λ (f : L.Function). f.type) fs)
+  types_have [] h = All-nil P
+  types_have (f ∷ fs) h = All-cons P f.type (map (λ (f : L.Function). f.type) fs) (All-head (HasTypes P void) f fs h).type (types_have fs (All-tail (HasTypes P void) f fs h))
 
-abbrev results_of : L.Function → List TypeTree
-results_of f = map (λ (p : Placed). p.type) (placed_in f)
-
--- they are held, so they nest as deep as they say themselves, whatever structs there are
-module _ (structs : List Struct) where
-  type_nested : (f : L.Function) → IsFormFunction f → IsHeldFunction f → IsNested structs f.type
-  type_nested f form held =
-      let values : All IsHeldResult (form.result ∷ types_list form.types ++ results_of f) = subst (λ (t : TypeTree). All IsHeldResult (result_of t ∷ params_of t ++ results_of f)) form.type held in
-      let returns = All-head IsHeldResult form.result (types_list form.types ++ results_of f) values in
-      let takes = all-left IsHeldResult (types_list form.types) (results_of f) (All-tail IsHeldResult form.result (types_list form.types ++ results_of f) values) in
-      subst (IsNested structs) (sym form.type) (function_nested structs form.result form.types false returns takes (subst IsShallow form.type form.shallow))
-
-  results_nested : (f : L.Function) → IsHeldFunction f → All (IsNested structs) (results_of f)
-  results_nested f held =
-      All-weaker IsHeldResult (IsNested structs) (held_result_nested structs) (results_of f)
-      (behind_all IsHeldResult (params_of f.type) (results_of f) (All-tail IsHeldResult (result_of f.type) (params_of f.type ++ results_of f) held))
-
-  types_nested : (fs : List L.Function) → All IsFormFunction fs → All IsHeldFunction fs → All (IsNested structs) (map (λ (f : L.Function). f.type) fs)
-  types_nested [] forms held = All-nil (IsNested structs)
-  types_nested (f ∷ fs) forms held =
-      All-cons (IsNested structs) f.type (map (λ (f : L.Function). f.type) fs) (type_nested f (All-head IsFormFunction f fs forms) (All-head IsHeldFunction f fs held))
-      (types_nested fs (All-tail IsFormFunction f fs forms) (All-tail IsHeldFunction f fs held))
-
-  all_nested : (fs : List L.Function) → All IsHeldFunction fs → All (IsNested structs) (map (λ (p : Placed). p.type) (flat_map placed_in fs))
-  all_nested [] held = All-nil (IsNested structs)
-  all_nested (f ∷ fs) held =
+  results_have : (fs : List L.Function) → All (HasTypes P void) fs → All P (map (λ (p : Placed). p.type) (flat_map placed_in fs))
+  results_have [] h = All-nil P
+  results_have (f ∷ fs) h =
       let rest = flat_map placed_in fs in
-      subst (All (IsNested structs)) (sym (map-append (λ (p : Placed). p.type) (placed_in f) rest))
-      (All-append (IsNested structs) (results_of f) (map (λ (p : Placed). p.type) rest) (results_nested f (All-head IsHeldFunction f fs held)) (all_nested fs (All-tail IsHeldFunction f fs held)))
+      subst (All P) (sym (map-append (λ (p : Placed). p.type) (placed_in f) rest))
+      (All-append P (results_of f) (map (λ (p : Placed). p.type) rest) (All-head (HasTypes P void) f fs h).results (results_have fs (All-tail (HasTypes P void) f fs h)))
+
+-- ---- types that the dialect has
+
+module _ (structs : List Struct) where
+  -- the type holds none for which the dialect has none
+  abbrev pub LacksNone : TypeTree → Type 0
+  LacksNone t = (of : OtherType) → ¬ Holds structs (RefusedType of) t
+
+  in_void : (u t : TypeTree) → Holds structs u t → t ≡ VoidType → u ≡ VoidType
+  in_void u _ Itself e = e
+  in_void u _ (InPart t v i at inside) e = let no : slice_get (parts_of VoidType) i ≡ Some v = subst (λ (x : TypeTree). slice_get (parts_of x) i ≡ Some v) e at in cc
+  in_void u _ (InField name s b v i is has at inside) e = cc
+
+  pub void_lacks : LacksNone VoidType
+  void_lacks of h = let e = in_void (RefusedType of) VoidType h refl in cc
+
+  -- what a function returns and takes holds nothing that its type does not
+  result_lacks : (t : TypeTree) → LacksNone t → LacksNone (result_of t)
+  result_lacks (FunctionType r ps v) lacks = λ of h. lacks of (InPart (FunctionType r ps v) r 0 refl h)
+  result_lacks t lacks = void_lacks
+
+  params_lack : (t : TypeTree) → LacksNone t → All LacksNone (params_of t)
+  params_lack (FunctionType r ps v) lacks = all_from LacksNone (types_list ps) (λ i p at of h. lacks of (InPart (FunctionType r ps v) p (suc i) at h))
+  params_lack t lacks = All-nil LacksNone
+
+  values_lack : (f : L.Function) → HasTypes LacksNone void_lacks f → All LacksNone (value_types f)
+  values_lack f h =
+      All-cons LacksNone (result_of f.type) (params_of f.type ++ results_of f) (result_lacks f.type h.type)
+      (All-append LacksNone (params_of f.type) (results_of f) (params_lack f.type h.type) h.results)
+
+  pub held_if : (d : ModuleData) → d.structs ≡ structs → All (HasTypes LacksNone void_lacks) d.functions → AreHeld d
+  held_if d same all of h =
+      let f = all_at (HasTypes LacksNone void_lacks) d.functions h.place h.f all h.at in
+      all_at LacksNone (value_types h.f) h.index h.type (values_lack h.f f) h.here of (subst (λ (ss : List Struct). Holds ss (RefusedType of) h.type) same h.holds)
 
 -- ---- the module back
 
 abbrev HasOwnLocals : L.Function → Type 0
 HasOwnLocals f = IsDistinctList (local_names f)
 
-abbrev HasFewFields : Struct → Type 0
-HasFewFields s = option_map_or (λ (b : StructBody). count_types b.fields) s.body 0 < 2 ^ 31
+module _ (c : ContextData) (m : ℕ) (stored : IsStored c.types) (typed : D.IsTyped c) (back : Module) (exported : IsExported (structs_of c.types) (D.data_of c m) back) (made : Matched IsMadeOf (D.data_of c m).functions (data_of back).functions) where
+  -- what is said of the structs of the context is true of those of the module back
+  of_structs : (P : List Struct → Type 0) → P (structs_of c.types) → P (data_of back).structs
+  of_structs P h = subst P (sym exported.structs_are) h
 
-module _ (source : D.DialectModule) (back : Module) (exported : IsExported source back) where
   pub held_exported : AreHeld (data_of back)
-  held_exported = each IsHeldFunction (λ g f h. h.held) source.functions (data_of back).functions exported.functions
+  held_exported =
+      let names = names_hold (LacksNone (structs_of c.types)) c m typed (λ t lt of. store_lacks_none c.types stored of t lt) in
+      held_if (structs_of c.types) (data_of back) exported.structs_are (all_types (LacksNone (structs_of c.types)) (void_lacks (structs_of c.types)) (D.data_of c m).functions (data_of back).functions made names)
 
-  -- what is said of a list of structs is true of none
-  no_structs : (P : List Struct → Type 0) → P [] → P (data_of back).structs
-  no_structs P h = subst P (sym exported.structs) h
-
-  pub form_exported : All HasTargets source.functions → IsForm (data_of back)
+  pub form_exported : All HasTargets (D.data_of c m).functions → IsForm (data_of back)
   form_exported targets =
       let fs = (data_of back).functions in
-      let ss = (data_of back).structs in
-      let formed = forms source.functions fs targets exported.functions in
+      let ss = structs_of c.types in
+      let void = void_nested ss in
+      let names = all_types (IsNested ss) void (D.data_of c m).functions fs made (data_nested c m stored typed) in
       let types = map (λ (f : L.Function). f.type) fs in
       let results = map (λ (p : Placed). p.type) (flat_map placed_in fs) in
       record {
-        functions = formed;
-        structs = no_structs (All IsFormStruct) (All-nil IsFormStruct);
-        nested = no_structs (λ (xs : List Struct). All (IsNested ss) (map (λ (s : Struct). NamedType s.name) xs ++ types ++ results))
-            (All-append (IsNested ss) types results (types_nested ss fs formed held_exported) (all_nested ss fs held_exported));
+        functions = forms (D.data_of c m).functions fs targets exported.functions;
+        structs = of_structs (All IsFormStruct) (stored_structs c.types stored);
+        nested = of_structs (λ (xs : List Struct). All (IsNested xs) (map (λ (s : Struct). NamedType s.name) xs ++ types ++ results))
+            (All-append (IsNested ss) (map (λ (s : Struct). NamedType s.name) ss ++ types) results
+            (All-append (IsNested ss) (map (λ (s : Struct). NamedType s.name) ss) types (structs_nested c.types stored) (types_have (IsNested ss) void fs names))
+            (results_have (IsNested ss) void fs names));
       }
 
-  pub distinct_exported : IsDistinctNames (map D.llvm_name_of source.functions) → HasDistinctNames (data_of back)
+  pub distinct_exported : IsDistinctNames (map D.llvm_name_of (D.data_of c m).functions) → HasDistinctNames (data_of back)
   distinct_exported distinct = record {
-    structs = no_structs (λ (xs : List Struct). IsDistinctList (map (λ (s : Struct). s.name) xs)) distinct_nil;
-    functions = subst (λ (ns : List (List ℕ)). IsDistinctList ns) (sym (names_exported source.functions (data_of back).functions exported.functions)) distinct;
-    locals = each HasOwnLocals (λ g f h. h.locals) source.functions (data_of back).functions exported.functions;
+    structs = of_structs (λ (xs : List Struct). IsDistinctList (map (λ (s : Struct). s.name) xs)) (stored_apart c.types stored);
+    functions = subst (λ (ns : List (List ℕ)). IsDistinctList ns) (sym (names_exported (D.data_of c m).functions (data_of back).functions exported.functions)) distinct;
+    locals = each HasOwnLocals (λ g f h. h.locals) (D.data_of c m).functions (data_of back).functions exported.functions;
   }
 
-  pub few_exported : HasFew (data_of back)
-  few_exported = record {
-    structs = no_structs (λ (xs : List Struct). length xs < 2 ^ 31) (omega arith);
-    fields = no_structs (All HasFewFields) (All-nil HasFewFields);
+  pub few_exported : length (structs_of c.types) < 2 ^ 31 → All HasFewFields (structs_of c.types) → HasFew (data_of back)
+  few_exported few fields = record {
+    structs = of_structs (λ (xs : List Struct). length xs < 2 ^ 31) few;
+    fields = of_structs (All HasFewFields) fields;
     functions = exported.few;
-    each = each IsFewIn (λ g f h. h.few) source.functions (data_of back).functions exported.functions;
+    each = each IsFewIn (λ g f h. h.few) (D.data_of c m).functions (data_of back).functions exported.functions;
   }

@@ -12,7 +12,7 @@ use Rattle.kinds.specs.Names.{IsGoodOrNone}
 use Rattle.llvm_core.specs.Data as L
 use Rattle.llvm_core.specs.Data.{ModuleData, Function, trees_of, function_of, with_function}
 use Rattle.llvm_core.proofs.DataLemmas.{length-filter_map_all, slice_get-filter_map_all}
-use Rattle.dialect_types.specs.Trees.{type_trees}
+use Rattle.dialect_types.specs.Trees.{NamedStruct, type_trees}
 use Rattle.dialect_core.specs.declared.numbers.OpRef.{OpRef}
 use Rattle.dialect_core.specs.declared.numbers.BlockRef.{BlockRef}
 use Rattle.dialect_core.specs.declared.ops.OpData.{OpData}
@@ -32,6 +32,7 @@ use Rattle.to_llvm_ir.specs.Opening.{AreBlocks}
 use Rattle.to_llvm_ir.specs.States.{Task, IsTask, IsLinking}
 use Rattle.to_llvm_ir.specs.Ordering.{AreBlocksOf}
 use Rattle.to_llvm_ir.specs.Functions.{IsMadeOf, AddsFunction, AddsFunctions, functions_in}
+use Rattle.to_llvm_ir.specs.Structs.{AddsStructs}
 use Rattle.to_llvm_ir.proofs.ContextLaws.{known, func_parts}
 use Rattle.to_llvm_ir.proofs.ListLaws.{all_at, at_middle, filter_map_more, filter_map_at}
 use Rattle.to_llvm_ir.proofs.MadeLaws.{all_stand}
@@ -168,16 +169,27 @@ adds_all c ops i old new whole h = subst (λ (os : List OpRef). AddsFunctions (f
 pub forms_held : (c : ContextData) (m : ℕ) (ops : List OpRef) → All (IsOpenForm c) (D.data_of c m).functions → ops ≡ held c m → All (IsOpenForm c) (functions_in c ops)
 forms_held c m ops all are = subst (λ (os : List OpRef). All (IsOpenForm c) (functions_in c os)) (sym are) all
 
--- what each function was made of, it stands for, in the module that was made
-pub all_exported : (c : ContextData) (m : ℕ) (ops : List OpRef) (given : List ℕ) (empty : ModuleData) (back : Module) → ops ≡ held c m → empty ≡ record { name = given; structs = []; functions = [] } → given ≡ (D.data_of c m).name → AddsFunctions (functions_in c ops) empty (L.data_of back) → IsExported (D.data_of c m) back
-all_exported c m ops given empty back are is same adds =
-    let whole : L.data_of back ≡ record { name = given; structs = []; functions = adds.functions } = adds.is ∙ ap (with_more adds.functions) is in
-    let none : length empty.functions < 2 ^ 31 = rw is (omega arith) in
-    record {
-      name = ap (λ (d : ModuleData). d.name) whole ∙ same;
-      structs = ap (λ (d : ModuleData). d.structs) whole;
-      functions = all_stand (D.data_of c m).functions (L.data_of back).functions
-          (subst (λ (os : List OpRef). Matched IsMadeOf (functions_in c os) (L.data_of back).functions) are
-          (subst (Matched IsMadeOf (functions_in c ops)) (sym (ap (λ (d : ModuleData). d.functions) whole)) adds.made));
-      few = adds.few none;
-    }
+-- the structs stand in a module that had none, and no functions yet
+pub with_structs : (given : List ℕ) (structs : List NamedStruct) (empty begun : ModuleData) → empty ≡ record { name = given; structs = []; functions = [] } → AddsStructs structs empty begun → begun ≡ record { name = given; structs = structs; functions = [] }
+with_structs given structs empty begun is adds = adds.is ∙ ap (λ (d : ModuleData). record d { structs = d.structs ++ structs }) is
+
+module _ (c : ContextData) (m : ℕ) (ops : List OpRef) (given : List ℕ) (structs : List NamedStruct) (begun : ModuleData) (back : Module) (are : ops ≡ held c m) (is : begun ≡ record { name = given; structs = structs; functions = [] }) (adds : AddsFunctions (functions_in c ops) begun (L.data_of back)) where
+  whole : L.data_of back ≡ record { name = given; structs = structs; functions = adds.functions }
+  whole = adds.is ∙ ap (with_more adds.functions) is
+
+  -- what each function of the module was made of
+  pub all_made : Matched IsMadeOf (D.data_of c m).functions (L.data_of back).functions
+  all_made =
+      subst (λ (os : List OpRef). Matched IsMadeOf (functions_in c os) (L.data_of back).functions) are
+      (subst (Matched IsMadeOf (functions_in c ops)) (sym (ap (λ (d : ModuleData). d.functions) whole)) adds.made)
+
+  -- it stands for, in the module that was made
+  pub all_exported : given ≡ (D.data_of c m).name → IsExported structs (D.data_of c m) back
+  all_exported same =
+      let none : length begun.functions < 2 ^ 31 = rw is (omega arith) in
+      record {
+        name = ap (λ (d : ModuleData). d.name) whole ∙ same;
+        structs_are = ap (λ (d : ModuleData). d.structs) whole;
+        functions = all_stand (D.data_of c m).functions (L.data_of back).functions all_made;
+        few = adds.few none;
+      }

@@ -1,5 +1,5 @@
 -- What the kind of a type that is translated is made of, and the kind that stands for it.
-use Rattle.std.proofs.Common.{ℕ, ◌≡◌, ◌<◌, ◌∙◌, refl, ap, subst, true, false, ◌&&◌, List, [], ◌∷◌, All, length, map}
+use Rattle.std.proofs.Common.{ℕ, ◌≡◌, ◌<◌, ◌∙◌, refl, ap, subst, true, false, ◌&&◌, Option, List, [], ◌∷◌, All, length, map}
 use Rattle.std.proofs.lemmas.List.Elements.{All-nil, All-cons, All-head, All-tail}
 use Rattle.kinds.specs.declared.types.VectorTypeKind.{VectorTypeKind}
 use Rattle.kinds.specs.declared.types.StructLayout.{StructLayout}
@@ -19,6 +19,7 @@ use Rattle.llvm_core.specs.Data.{trees_of}
 use Rattle.llvm_core.proofs.TreeLemmas.{same_tree}
 use Rattle.llvm_core.proofs.WholeTypes.{shape_there}
 use Rattle.dialect_types.specs.declared.types.TypeHandle.{TypeHandle}
+use Rattle.dialect_types.specs.declared.types.StructFields.{StructFields}
 use Rattle.dialect_types.specs.declared.types.TypeKind.{TypeKind}
 use Rattle.dialect_types.specs.declared.types.TypeKind.TheVariants as K
 use Rattle.dialect_types.specs.Trees.{TypeTree, type_at, types_at, type_tree, AllBelow, HasPartsBelow}
@@ -54,13 +55,14 @@ pub all_there : (n : ℕ) (xs : List TypeHandle) → AllBelow n xs → All (λ (
 all_there n [] h = All-nil (λ (t : TypeHandle). t.0 < n)
 all_there n (x ∷ xs) h = All-cons (λ (t : TypeHandle). t.0 < n) x xs h.0 (all_there n xs h.1)
 
--- any other has none: a line for each kind that has parts
+-- any other has none: a line for each kind that has parts, here or by its name
 pub no_parts : (ts : List TypeTree) (k : TypeKind) → ((t : TypeHandle) (n : ℕ) → k ≡ K.Array t n → ⊥) → ((t : TypeHandle) (n : ℕ) (v : VectorTypeKind) → k ≡ K.Vector t n v → ⊥) → ((xs : List TypeHandle) (l : StructLayout) → k ≡ K.Struct xs l → ⊥)
-    → is_made (shape (type_tree ts k)) ≡ false
-no_parts ts (K.Array t n) a v s = absurd (a t n refl)
-no_parts ts (K.Vector t n w) a v s = absurd (v t n w refl)
-no_parts ts (K.Struct xs l) a v s = absurd (s xs l refl)
-no_parts ts k a v s = refl
+    → ((name : List ℕ) (body : Option StructFields) → k ≡ K.Named name body → ⊥) → is_made (shape (type_tree ts k)) ≡ false
+no_parts ts (K.Array t n) a v s o = absurd (a t n refl)
+no_parts ts (K.Vector t n w) a v s o = absurd (v t n w refl)
+no_parts ts (K.Struct xs l) a v s o = absurd (s xs l refl)
+no_parts ts (K.Named name body) a v s o = absurd (o name body refl)
+no_parts ts k a v s o = refl
 
 -- ---- the kind that stands for it
 

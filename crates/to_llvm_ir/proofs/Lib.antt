@@ -40,6 +40,7 @@ pub mod PlanLaws
 pub mod ShapeLaws
 pub mod ResultLaws
 pub mod SetLaws
+pub mod StructLaws
 pub mod StepLaws
 pub mod SuccessorLaws
 pub mod TurnLaws

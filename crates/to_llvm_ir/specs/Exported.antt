@@ -8,7 +8,7 @@ use Rattle.support.specs.Interned.{IsDistinctList}
 use Rattle.llvm_core.specs.Data as L
 use Rattle.llvm_core.specs.Data.{Operand, Placed, data_of, phi_entries}
 use Rattle.llvm_core.specs.Form.{IsFormFunction, IsHeldFunction, IsFewIn, HasPhisFirst, is_phi, targets_of, local_names}
-use Rattle.dialect_types.specs.Trees.{TypeTree}
+use Rattle.dialect_types.specs.Trees.{TypeTree, NamedStruct}
 use Rattle.dialect_core.specs.declared.numbers.BlockRef.{BlockRef}
 use Rattle.dialect_core.specs.declared.ops.Value.{Value}
 use Rattle.dialect_core.specs.declared.ops.Value.TheVariants.{Result, Argument}
@@ -174,10 +174,11 @@ pub record HasTraces (a b : Setting) (g : Func) (f : L.Function) : Type 0 where
   pub first : HasOnlyEntryConstants g → (choices : List ℕ) → SameTrace same_places a f b g choices
   pub set : (choices : List ℕ) → func_reads_unset b g choices ≡ false → SameTrace same_places a f b g choices
 
--- the module back has a function for each of the dialect's, in order, and its name, and no struct with a name
-pub record IsExported (d : DialectModule) (back : Module) : Type 0 where
+-- the module back has a function for each of the dialect's, in order, and its name, and the structs of the context, in the
+-- order in which they were made there
+pub record IsExported (structs : List NamedStruct) (d : DialectModule) (back : Module) : Type 0 where
   pub name : (data_of back).name ≡ d.name
-  pub structs : (data_of back).structs ≡ []
+  pub structs_are : (data_of back).structs ≡ structs
   pub functions : Matched ExportedFunction d.functions (data_of back).functions
   pub few : length (data_of back).functions < 2 ^ 31
 

@@ -15,3 +15,4 @@ pub mod Links
 pub mod Functions
 pub mod Narrow
 pub mod Own
+pub mod Structs

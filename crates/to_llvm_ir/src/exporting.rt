@@ -5,8 +5,9 @@ ghost use Rattle.llvm_core.specs.Checked.{IsChecked};
 ghost use Rattle.llvm_core.specs.Data as lists;
 ghost use Rattle.llvm_core.specs.Data.{AreApart};
 ghost use Rattle.llvm_core.specs.Sound.{IsModule};
-ghost use Rattle.llvm_core.specs.Form.{AreHeld, IsForm};
-ghost use Rattle.dialect_types.specs.Trees.{type_trees};
+ghost use Rattle.llvm_core.specs.Form.{IsForm};
+ghost use Rattle.held_types.specs.Held.{AreHeld};
+ghost use Rattle.dialect_types.specs.Trees.{structs_of, type_trees};
 ghost use Rattle.dialect_core.specs.Data.{Func, DialectModule, IsTyped, llvm_name_of, func_in, data_of};
 ghost use Rattle.dialect_core.specs.Form.{IsFormFunc, HasOnlyEntryConstants, HasTargets};
 ghost use Rattle.dialect_core.specs.WellFormed.{IsOpenForm};
@@ -30,6 +31,7 @@ use crate::opening::append_blocks;
 use crate::operations::{llvm_name_of, name_of};
 use crate::own::own_order;
 use crate::room::make_room;
+use crate::structs::convert_structs;
 use crate::to_llvm_err::ToLLVMErr;
 use crate::types::function_type;
 use dialect_core::context::Context;
@@ -170,9 +172,9 @@ fn know_sound(m: &LLVMModule)
     let _ = m.types();
 }
 
-/// An LLVM module with a function for each function of a dialect module, in order, under its LLVM name. Each has the traces
-/// of its dialect function where that reads no unset value, and for every list of choices where the constants all stand
-/// in the first block.
+/// An LLVM module with the structs of the context, in the order in which they were made there, and with a function for each
+/// function of a dialect module, in order, under its LLVM name. Each has the traces of its dialect function where that
+/// reads no unset value, and for every list of choices where the constants all stand in the first block.
 ///
 /// The blocks are taken in the order of the dialect where each value stands before its uses in it, else depth first.
 /// `UndefinedValue` where a value is used where it does not stand before in this order, or is another function's;
@@ -181,7 +183,7 @@ fn know_sound(m: &LLVMModule)
 /// pass different values to one block; `NoMemory` where memory is not enough.
 pub fn convert_module(alloc: Global, ctx: &Context, module: ModuleOp) -> Result<Exported, ToLLVMErr>
     requires { IsReadable ctx.now «module».0.0 }
-    ensures exported { IfOk result (λ x. IsExported (data_of ctx.now «module».0.0) x.«module») }
+    ensures exported { IfOk result (λ x. IsExported (structs_of ctx.now.types) (data_of ctx.now «module».0.0) x.«module») }
     ensures traces { IfOk result (λ x. Matched (HasTraces (llvm.setting_of (lists.data_of x.«module»)) (dialect.setting_of (data_of ctx.now «module».0.0))) (data_of ctx.now «module».0.0).functions (lists.data_of x.«module»).functions) }
     ensures same { IsDistinctNames (map llvm_name_of (data_of ctx.now «module».0.0).functions) → All HasOnlyEntryConstants (data_of ctx.now «module».0.0).functions → IfOk result (λ x. SameCode same_places (llvm.code_of (lists.data_of x.«module»)) (dialect.code_of (data_of ctx.now «module».0.0))) }
     ensures form { All HasTargets (data_of ctx.now «module».0.0).functions → IfOk result (λ x. IsForm (lists.data_of x.«module»)) }
@@ -190,6 +192,7 @@ pub fn convert_module(alloc: Global, ctx: &Context, module: ModuleOp) -> Result<
     ensures cause { IfErr result (λ e. IsCause ctx.now (data_of ctx.now «module».0.0) e) }
 {
     let mut cctx = ConversionContext::new(alloc, name_of(ctx, module.0))?;
+    convert_structs(alloc, ctx, &mut cctx.guesses, &mut cctx.module)?;
     convert_held_functions(alloc, ctx, module, &mut cctx)?;
     know_sound(&cctx.module);
     Ok(Exported {

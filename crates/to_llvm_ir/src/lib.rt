@@ -23,6 +23,7 @@ pub mod predicates;
 pub mod readable;
 pub mod room;
 pub mod run_map;
+pub mod structs;
 pub mod to_llvm_err;
 pub mod types;
 pub mod values;

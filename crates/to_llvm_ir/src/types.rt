@@ -18,8 +18,9 @@ use llvm_core::numbers::LLVMType;
 use llvm_core::types::LLVMTypeKind;
 use std::alloc::{AllocError, Global};
 use support::items::Items;
+use support::text::Text;
 
-/// The kind that stands for that of a type of values without parts, or of void: a line for each.
+/// The kind that stands for that of a type of values without parts or a name, or of void: a line for each.
 fn plain_kind(kind: &TypeKind) -> LLVMTypeKind
     requires { (ts : List TypeTree) × IsHeldResult (type_tree ts kind.now) × (is_made (shape (type_tree ts kind.now)) ≡ false) }
     ensures over { (n : ℕ) → IsTypeOver n result }
@@ -34,12 +35,13 @@ fn plain_kind(kind: &TypeKind) -> LLVMTypeKind
         TypeKind::Array(_, _) => unreachable!(),
         TypeKind::Vector(_, _, _) => unreachable!(),
         TypeKind::Struct { .. } => unreachable!(),
+        TypeKind::Named { .. } => unreachable!(),
         TypeKind::Func { .. } => unreachable!(),
     }
 }
 
 /// The kind that stands for that of the type of a value or of void, once its parts are there: a line for each that has
-/// parts.
+/// parts, and one for a struct with a name, whose fields stand beside the types.
 #[cycle(value_type)]
 fn value_kind(
     alloc: Global,
@@ -73,6 +75,10 @@ fn value_kind(
                 layout: *layout,
             })
         }
+        TypeKind::Named { name, .. } => {
+            let name = Text::copy(alloc, name.as_str())?;
+            Ok(LLVMTypeKind::Named(name))
+        }
         kind => Ok(plain_kind(kind)),
     }
 }
@@ -101,7 +107,7 @@ pub fn value_type(
 
 /// The types of values.
 #[cycle(value_type)]
-fn value_types(
+pub fn value_types(
     alloc: Global,
     ctx: &Context,
     types: &[TypeHandle],

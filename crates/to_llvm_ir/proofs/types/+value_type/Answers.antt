@@ -2,7 +2,7 @@
 use Rattle.std.proofs.Common.{◌∙◌, All, List, ap, length, map, refl, sym, subst, arith}
 use Rattle.std.proofs.lemmas.List.{take_all}
 use Rattle.kinds.specs.Held.{IsHeld, IsHeldResult}
-use Rattle.kinds.specs.Types.{ArrayType, VectorType}
+use Rattle.kinds.specs.Types.{ArrayType, VectorType, NamedType}
 use Rattle.kinds.proofs.HeldLaws.{held_result_if}
 use Rattle.llvm_core.specs.Module.{Module}
 use Rattle.llvm_core.specs.Data.{trees_of}
@@ -121,13 +121,21 @@ value_kind-returns-in_ok-fields-in-Struct-clause-fit t c =
     let tree = struct_stands c.value_types.new.back ts fields c.in-Struct.fields c.in-Struct.layout are ∙ ap (type_tree ts) (sym c.in-Struct.is) ∙ sym (rw types at c.kind.ensures.tree) in
     held_fit c.value_types.new.back done.sound (T.Literal fields c.in-Struct.layout) done.types.0 (subst IsHeldResult (sym tree) c.requires.held)
 
+pub value_kind-returns-in_ok-name-in-Named-clause-tree : goal.value_kind-returns-in_ok-name-in-Named-clause-tree
+value_kind-returns-in_ok-name-in-Named-clause-tree t c =
+    let types = c.types.ensures in
+    ap NamedType (c.in_ok-name-in-Named.ensures ∙ c.as_str.ensures.text) ∙ ap (type_tree (type_trees c.args.ctx.now.types)) (sym c.in-Named.is) ∙ sym (rw types at c.kind.ensures.tree)
+
+pub value_kind-returns-in_ok-name-in-Named-clause-grows : goal.value_kind-returns-in_ok-name-in-Named-clause-grows
+value_kind-returns-in_ok-name-in-Named-clause-grows t c = grows_refl c.args.back.now
+
 -- ---- the others
 
 pub value_kind-plain_kind-requires : goal.value_kind-plain_kind-requires
 value_kind-plain_kind-requires t c =
     let types = c.types.ensures in
     let ts = type_trees c.args.ctx.now.types in
-    (ts, subst IsHeldResult (rw types at c.kind.ensures.tree) c.requires.held, no_parts ts c.kind.result.now c.in_default.not-Array c.in_default.not-Vector c.in_default.not-Struct)
+    (ts, subst IsHeldResult (rw types at c.kind.ensures.tree) c.requires.held, no_parts ts c.kind.result.now c.in_default.not-Array c.in_default.not-Vector c.in_default.not-Struct c.in_default.not-Named)
 
 pub value_kind-returns-in_default : goal.value_kind-returns-in_default
 value_kind-returns-in_default t c =
