@@ -1,13 +1,19 @@
 -- An export has no cause to refuse what an import made.
-use Rattle.std.proofs.Common.{ℕ, ◌≡◌, refl, sym, ◌∙◌, ap, List, length, slice_get, All}
+use Rattle.std.proofs.Common.{ℕ, ◌≡◌, ◌⊎◌, inl, inr, refl, sym, ◌∙◌, ap, subst, List, [], None, Some, length, slice_get, All}
 use Rattle.std.proofs.lemmas.Option.{slice_get_within}
 use Rattle.std.proofs.lemmas.List.Elements.{All-contains}
 use Rattle.llvm_core.proofs.DataLemmas.{within_at}
 use Rattle.dialect_core.specs.Data.{DialectModule, DialectBlock}
-use Rattle.dialect_core.specs.ContextData.{ContextData}
+use Rattle.dialect_core.specs.ContextData.{ContextData, empty_context}
+use Rattle.dialect_types.specs.Trees.{structs_of}
 use Rattle.dialect_core.specs.Form.{IsFormFunc, IsExportable, FitsTarget, HasEqualEdges, StandsBefore, edges_of, uses_of}
 use Rattle.llvm_core.specs.Data.{ModuleData}
-use Rattle.llvm_core.specs.Form.{AreHeld}
+use Rattle.held_types.specs.Held.{AreHeld}
+use Rattle.kinds.specs.Structs.{Struct, struct_in}
+use Rattle.dialect_types.specs.declared.struct_err.StructErr.TheVariants as S
+use Rattle.support.proofs.ListLaws.{all_from}
+use Rattle.from_llvm_ir.specs.Imported.{IsIn}
+use Rattle.from_llvm_ir.specs.Structs.{AddsOnly}
 use Rattle.from_llvm_ir.specs.Refusals as Import
 use Rattle.from_llvm_ir.specs.declared.conversion_err.ConversionErr.{ConversionErr}
 use Rattle.from_llvm_ir.specs.declared.conversion_err.ConversionErr.TheVariants as C
@@ -66,15 +72,36 @@ module _ (d : DialectModule) (forms : All IsFormFunc d.functions) (fit : All IsE
   only_memory_exported c (E.EdgeArgsDiffer p t) h = absurd (never_other p t h)
   only_memory_exported c E.NoMemory h = refl
 
-pub of_import_cause : (m : ModuleData) (e : ConversionErr) → Import.IsCause m e → IsCause m (of_import e)
+none_there : (identifier : List ℕ) (s : Struct) → ¬ (struct_in [] identifier ≡ Some s)
+none_there identifier s e = cc
+
+-- an empty context has none
+pub in_empty : (m : ModuleData) (c : ContextData) (e : ConversionErr) → c ≡ empty_context → Import.IsCause (structs_of c.types) m e → Import.IsCause [] m e
+in_empty m c e is h = subst (λ (x : ContextData). Import.IsCause (structs_of x.types) m e) is h
+
+not_in_none : (s : Struct) → ¬ IsIn [] s
+not_in_none s h = let no : None ≡ Some s = h.1 in cc
+
+-- so all that it has later have come
+pub only_in_empty : (c new : ContextData) (is : List (List ℕ)) → c ≡ empty_context → AddsOnly (structs_of c.types) (structs_of new.types) is → All (λ (s : Struct). IsIn is s.name) (structs_of new.types)
+only_in_empty c new is e h = all_from (λ (s : Struct). IsIn is s.name) (structs_of new.types) (λ j s at. elim (h j s at) [
+  | inl old ↦ absurd (not_in_none s (subst (λ (x : ContextData). IsIn (structs_of x.types) s) e old))
+  | inr here ↦ here
+])
+
+-- of an import into a context without structs
+pub of_import_cause : (m : ModuleData) (e : ConversionErr) → Import.IsCause [] m e → IsCause m (of_import e)
 of_import_cause m (C.UndefinedValue name v) h = h
 of_import_cause m (C.Unsupported u) h = h
+of_import_cause m (C.Struct (S.DifferentBody identifier)) h = absurd (none_there identifier h.other.other h.other.there)
+of_import_cause m (C.Struct S.NoMemory) h = absurd h
 of_import_cause m C.NoMemory h = tt
 
 -- a module whose uses are valid and whose types are held is refused for want of memory alone
 pub only_memory : (m : ModuleData) (e : TransferErr) → IsCause m e → IsValid m → AreHeld m → e ≡ T.NoMemory
 only_memory m (T.Import (C.UndefinedValue name v)) h valid held = absurd (no_undefined_use m valid name v h)
 only_memory m (T.Import (C.Unsupported u)) h valid held = absurd (held_unsupported m held u h)
+only_memory m (T.Import (C.Struct s)) h valid held = absurd h
 only_memory m (T.Import C.NoMemory) h valid held = absurd h
 only_memory m (T.Export e) h valid held = absurd h
 only_memory m T.NoMemory h valid held = refl

@@ -13,20 +13,21 @@ use Rattle.meaning.specs.Llvm as Llvm
 use Rattle.meaning.specs.Dialect as Dialect
 use Rattle.meaning.proofs.Naming.{items_same}
 use Rattle.meaning.proofs.WovenLaws.{woven_first}
-use Rattle.meaning.proofs.EntryLaws.{some_blocks, same_symbol, both}
+use Rattle.meaning.proofs.EntryLaws.{some_blocks, both}
+use Rattle.meaning.specs.Renamed.{renamed_function}
 use Rattle.from_llvm_ir.specs.declared.matching.FunctionBlocks.{FunctionBlocks}
 use Rattle.from_llvm_ir.specs.Match.{place_at}
 use Rattle.from_llvm_ir.specs.Imported.{ImportedFunction}
-use Rattle.from_llvm_ir.proofs.CodeLaws.{same_blocks, one_to_one, kept_as, has, type_kept, imported_body}
+use Rattle.from_llvm_ir.proofs.CodeLaws.{as_many, placed, one_to_one, kept_as, has, symbol_named, type_named, imported_body}
 use Rattle.to_llvm_ir.specs.Exported.{ExportedFunction}
 use Rattle.to_llvm_ir.proofs.CodeLaws.{named_count}
 
 module _ (match : Match) (d : ModuleData) (given : List Named) (f : L.Function) (x : FunctionBlocks) (g : D.Func) (here : (b : ℕ) → match.block f.name b ≡ place_at b x)
-    (form : IsFormFunction f) (h : ImportedFunction d given f x g) where
+    (form : IsFormFunction f) (h : ImportedFunction d given (renamed_function match.struct f) x g) where
   -- whatever the source, the dialect module and the module back tell
   module _ (f' : L.Function) (k : ExportedFunction g f') (source made back : Setting) where
     back_blocks : length f'.blocks ≡ length f.blocks
-    back_blocks = named_count g f' k ∙ same_blocks d given f x g h
+    back_blocks = named_count g f' k ∙ as_many match d given f x g here form h
 
     pub form_back : IsFormFunction f'
     form_back = k.form h.targets
@@ -40,16 +41,16 @@ module _ (match : Match) (d : ModuleData) (given : List Named) (f : L.Function) 
 
     body_back : SameBody match f.name (Llvm.body source f) (Llvm.body back f')
     body_back = record {
-      blocks = one_to_one x (length f.blocks) (length f'.blocks) (match.block f.name) h.places here back_blocks;
+      blocks = one_to_one x (length f.blocks) (length f'.blocks) (match.block f.name) (placed match d given f x g here form h) here back_blocks;
       traces = λ cs. (imported_body match d given f x g here form h source made).traces cs ∙ sym (trace_back cs);
     }
 
     pub entry_back : SameNamed match (Llvm.entry source f) (Llvm.entry back f')
     entry_back = record {
-      name = sym (kept_as given d f x g h) ∙ sym k.name;
+      name = sym (kept_as given d (renamed_function match.struct f) x g h) ∙ sym k.name;
       entry = record {
         symbol =
-            same_symbol match f.type f'.type f.space (Llvm.has_blocks f) (Llvm.has_blocks f') (type_kept match d given f x g here form h) (sym h.type ∙ sym k.type) form.space (has match d given f x g here form h ∙ sym has_back)
+            symbol_named match f.type f'.type f.space (Llvm.has_blocks f) (Llvm.has_blocks f') (type_named match d given f x g here form h ∙ sym k.type) form.space (has match d given f x g here form h ∙ sym has_back)
             ∙ ap (λ (s : ℕ). FunctionSymbol f'.type External s (Llvm.has_blocks f')) (sym form_back.space);
         body = both match f.name (Llvm.has_blocks f) (Llvm.has_blocks f') (Llvm.body source f) (Llvm.body back f') (has match d given f x g here form h) has_back body_back;
       };

@@ -7,8 +7,8 @@ use from_llvm_ir::matching::FunctionBlocks;
 use llvm_core::module::LLVMModule;
 use support::items::Items;
 
-/// A dialect module in its context, the module of LLVM that was made of it, the match of blocks, and the identified structs
-/// with their names in the dialect, which are none yet.
+/// A dialect module in its context, the module of LLVM that was made of it, the match of blocks, and the structs with a name that
+/// values hold, with their names in the dialect.
 #[derive(Drop)]
 pub struct Transferred {
     pub ctx: Context,

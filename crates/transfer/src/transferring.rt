@@ -1,10 +1,11 @@
 //! The two halves in a row: a module is begun, which imports it, and finished, which exports what was imported.
 
-ghost use Rattle.std.specs.Prelude.{◌≡◌, [], IfOk, IfErr};
+ghost use Rattle.std.specs.Prelude.{◌≡◌, IfOk, IfErr};
 ghost use Rattle.llvm_core.specs.Module.{Module};
 ghost use Rattle.llvm_core.specs.Checked.{IsChecked};
 ghost use Rattle.llvm_core.specs.Data.{data_of};
-ghost use Rattle.llvm_core.specs.Form.{AreHeld, IsForm};
+ghost use Rattle.llvm_core.specs.Form.{IsForm};
+ghost use Rattle.held_types.specs.Held.{AreHeld};
 ghost use Rattle.from_llvm_ir.specs.Refusals.{IsValid};
 ghost use Rattle.to_llvm_ir.specs.Held.{IsReadable};
 ghost use Rattle.transfer.specs.declared.transfer_err.TransferErr.TheVariants as refusals;
@@ -50,7 +51,6 @@ pub fn finish(alloc: Global, begun: Begun) -> Result<Transferred, TransferErr>
     ensures form { IfOk result (λ t. IsForm (data_of t.back)) }
     ensures held { IfOk result (λ t. AreHeld (data_of t.back)) }
     ensures readable { IfOk result (λ t. IsReadable t.ctx t.dialect.0.0) }
-    ensures structs { IfOk result (λ t. t.structs.items ≡ []) }
     ensures memory { IfErr result (λ e. e ≡ refusals.NoMemory) }
 {
     let exported = export(alloc, &begun.ctx, begun.imported.module)?;
@@ -64,8 +64,8 @@ pub fn finish(alloc: Global, begun: Begun) -> Result<Transferred, TransferErr>
     })
 }
 
-/// The dialect module of a checked module of the form, in a context of its own, the module back, the match of blocks, and
-/// the identified structs, of which there are none yet. The module back is checked, and the dialect module stands in its
+/// The dialect module of a checked module of the form, in a context of its own, the module back, and the matches of blocks and
+/// of structs with a name. The module back is checked, and the dialect module stands in its
 /// context as an export reads it. It is refused only where the import
 /// refuses it: the export takes all that an import makes. So a module whose uses are valid and whose types are held is
 /// answered `Ok` or `NoMemory`.
@@ -77,7 +77,6 @@ pub fn transfer(alloc: Global, module: &LLVMModule) -> Result<Transferred, Trans
     ensures form { IfOk result (λ t. IsForm (data_of t.back)) }
     ensures held { IfOk result (λ t. AreHeld (data_of t.back)) }
     ensures readable { IfOk result (λ t. IsReadable t.ctx t.dialect.0.0) }
-    ensures structs { IfOk result (λ t. t.structs.items ≡ []) }
     ensures cause { IfErr result (λ e. IsCause (data_of «module».now) e) }
     ensures complete { IsValid (data_of «module».now) → AreHeld (data_of «module».now) → IfErr result (λ e. e ≡ refusals.NoMemory) }
 {

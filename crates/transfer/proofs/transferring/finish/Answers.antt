@@ -18,9 +18,6 @@ returns-clause-form c = begun_form c.requires.begun.0 c.args.begun c.in_ok-expor
 pub returns-clause-readable : goal.returns-clause-readable
 returns-clause-readable c = begun_readable c.requires.begun.0 c.args.begun c.requires.begun.1
 
-pub returns-clause-structs : goal.returns-clause-structs
-returns-clause-structs c = c.requires.begun.1.structs
-
 pub returns-in_err-exported-clause-memory : goal.returns-in_err-exported-clause-memory
 returns-in_err-exported-clause-memory c =
     let memory = begun_memory c.requires.begun.0 c.args.begun c.in_err-exported.field-0.0 c.requires.begun.1 c.in_err-exported.ensures.cause in
