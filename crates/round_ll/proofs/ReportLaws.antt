@@ -1,5 +1,5 @@
 -- The names that the report shows, and what of it stands where memory was wanting.
-use Rattle.std.proofs.Common.{ℕ, suc, ◌≡◌, ◌<◌, refl, sym, ◌∙◌, ap, subst, List, ◌++◌, Some, Result, Ok, Err, OnErr, length, slice_get, get_or, take, drop, append_assoc, take-append-drop, drop-cons, arith}
+use Rattle.std.proofs.Common.{ℕ, suc, ◌≡◌, ◌<◌, refl, sym, ◌∙◌, ap, subst, List, ◌++◌, Some, Result, Ok, Err, OnErr, length, slice_get, get_or, take, drop, append_assoc, append-nil, [], take-append-drop, drop-cons, arith}
 use Rattle.std.specs.List.{flat_map}
 use Rattle.std.proofs.lemmas.List.Concat.{flat_map-cons}
 use Rattle.std.proofs.lemmas.Grind.{flat_map-append}
@@ -32,6 +32,10 @@ number_within m i f at =
 -- where a call that failed wrote nothing more
 pub front_done : (before after done text : List ℕ) → after ≡ before ++ done → HoldsFront before after (done ++ text)
 front_done before after done text is = record { front = done; rest = text; is = refl; held = is }
+
+-- and where it wrote nothing at all
+pub front_none : (before after text : List ℕ) → after ≡ before → HoldsFront before after text
+front_none before after text is = record { front = []; rest = text; is = refl; held = is ∙ sym (append-nil before) }
 
 -- more text behind
 pub front_of : (before after text more : List ℕ) → HoldsFront before after text → HoldsFront before after (text ++ more)
@@ -69,3 +73,7 @@ pub front_in_line : (before middle after word name shown places more : List ℕ)
 front_in_line before middle after word name shown places more same is h =
     front_of before after ((word ++ name) ++ places) more
     (front_behind before middle after (word ++ name) places (is ∙ append_assoc before word shown ∙ ap (λ n. before ++ (word ++ n)) same) h)
+
+pub on_err_then : {T E : Type 0} (P Q : Type 0) (result : Result T E) → (P → Q) → OnErr result P → OnErr result Q
+on_err_then P Q (Ok value) next h = tt
+on_err_then P Q (Err e) next h = next h

@@ -6,7 +6,8 @@ use Rattle.ll_said.proofs.OwnLaws.{own_twin}
 use Rattle.ll_text.specs.Spelling.{IsSpelled, IsNumbered, Spells}
 use Rattle.ll_text.proofs.ReadLaws.{one_meant}
 use Rattle.llvm_core.specs.Data.{ModuleData, data_of}
-use Rattle.llvm_core.specs.Form.{AreHeld, IsForm}
+use Rattle.llvm_core.specs.Form.{IsForm}
+use Rattle.held_types.specs.Held.{AreHeld}
 use Rattle.from_llvm_ir.specs.declared.conversion_err.ConversionErr.TheVariants as C
 use Rattle.from_llvm_ir.specs.Refusals.{IsValid}
 use Rattle.from_llvm_ir.proofs.UndefinedLaws.{no_undefined_use}
@@ -64,6 +65,7 @@ not_too_many most (Some xs) o' input told short many = let same : xs ≡ input =
 no_cause : (d : ModuleData) (e : TransferErr) → IsValid d → AreHeld d → IsRefusal e → ¬ Same.IsCause d e
 no_cause d (T.Import (C.UndefinedValue name v)) valid held refusal h = no_undefined_use d valid name v h
 no_cause d (T.Import (C.Unsupported u)) valid held refusal h = held_unsupported d held u h
+no_cause d (T.Import (C.Struct s)) valid held refusal h = h
 no_cause d (T.Import C.NoMemory) valid held refusal h = h
 no_cause d (T.Export e) valid held refusal h = h
 no_cause d T.NoMemory valid held refusal h = refusal

@@ -39,7 +39,7 @@ other_head O.Token = codes "import Token"
 abbrev pub refusal_head : TransferErr → List ℕ
 refusal_head (T.Import (C.UndefinedValue name v)) = codes "import UndefinedValue: "
 refusal_head (T.Import (C.Unsupported (U.Ty of))) = other_head of
-refusal_head (T.Import (C.Unsupported U.Struct)) = codes "import Struct"
+refusal_head (T.Import (C.Struct s)) = codes "import Struct"
 refusal_head (T.Import C.NoMemory) = codes "import NoMemory"
 refusal_head (T.Export (X.UndefinedValue name)) = codes "export UndefinedValue: "
 refusal_head (T.Export (X.UndefinedBlock label)) = codes "export UndefinedBlock: "

@@ -3,7 +3,9 @@ use Rattle.std.specs.Prelude.{ℕ, ◌≡◌, List, [], ◌++◌, codes}
 use Rattle.llvm_core.specs.Module.{Module}
 use Rattle.llvm_core.specs.Sound.{IsModule}
 use Rattle.llvm_core.specs.Checked.{IsChecked}
-use Rattle.llvm_core.specs.Form.{AreHeld, IsForm}
+use Rattle.llvm_core.specs.Form.{IsForm}
+use Rattle.held_types.specs.Held.{AreHeld}
+use Rattle.dialect_types.specs.Trees.{structs_of}
 use Rattle.llvm_core.specs.Data as L
 use Rattle.llvm_core.specs.Data.{ModuleData}
 use Rattle.dialect_core.specs.Text.{module_text}
@@ -22,23 +24,21 @@ pub record IsOutput (m : ModuleData) (t : Transferred) (text : List ℕ) : Type 
   pub spells : Spells llvm (back_of t)
   -- its last line has an end, so the line behind it stands by itself
   pub lines : EndsLine llvm
-  pub whole : text ≡ module_text (dialect_of t) ++ codes ";; llvm\n" ++ llvm ++ codes ";; report\n" ++ report_text m t.blocks
+  pub whole : text ≡ module_text (structs_of t.ctx.types) (dialect_of t) ++ codes ";; llvm\n" ++ llvm ++ codes ";; report\n" ++ report_text m t.structs.items t.blocks
 
--- The input spells one sound and checked module of the form; the dialect module and the module back have its
--- code; and text is the output.
+-- The input spells one sound and checked module of the form; the dialect module and the module back have its code, under the
+-- match of blocks and of names of structs that the report shows; and text is the output.
 pub record Rounds (input : List ℕ) (t : Transferred) (text : List ℕ) : Type 0 where
   pub source : Module
   pub sound : IsModule source
   pub checked : IsChecked source
   pub numbered : IsNumbered (L.data_of source)
   pub form : IsForm (L.data_of source)
-  -- each value is of a type that is translated
+  -- no value is of a type that the dialect lacks, nor of one that holds such a type
   pub held : AreHeld (L.data_of source)
   pub spelled : Spells input (L.data_of source)
   pub same : SameThroughout (L.data_of source) t
   pub back_checked : IsChecked t.back
   -- the dialect module stands in its context as a caller needs it, to print, check or export it once more
   pub readable : IsReadable t.ctx t.dialect.0.0
-  -- no identified struct is held yet, so none is matched
-  pub structs : t.structs.items ≡ []
   pub output : IsOutput (L.data_of source) t text

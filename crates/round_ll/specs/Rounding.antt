@@ -3,6 +3,7 @@ use Rattle.std.specs.Prelude.{◌≡◌, ◌≢◌, ℕ, List, [], ◌++◌, cod
 use Rattle.llvm_core.specs.Module.{Module}
 use Rattle.llvm_core.specs.Form.{IsForm, HasDistinctNames, HasFew}
 use Rattle.llvm_core.specs.Data.{ModuleData, data_of}
+use Rattle.dialect_types.specs.Trees.{structs_of}
 use Rattle.dialect_core.specs.Data as D
 use Rattle.dialect_core.specs.Text.{module_text as dialect_text}
 use Rattle.ll_print.specs.Printing.{EndsLine, module_text as llvm_text}
@@ -28,8 +29,8 @@ pub record IsPrintable (back : Module) : Type 0 where
 -- a module is imported, and the text of that and the report are written
 pub record IsStarted (m : Module) (b : Begun) (text report : List ℕ) : Type 0 where
   pub begun : IsBegun m b
-  pub shown : text ≡ dialect_text (D.data_of b.ctx b.imported.«module».0.0) ++ codes ";; llvm\n"
-  pub reported : report ≡ report_text (data_of m) b.imported.blocks
+  pub shown : text ≡ dialect_text (structs_of b.ctx.types) (D.data_of b.ctx b.imported.«module».0.0) ++ codes ";; llvm\n"
+  pub reported : report ≡ report_text (data_of m) b.imported.structs.items b.imported.blocks
 
 -- the text of the module back and the report are appended
 pub record IsEnded (back : ModuleData) (report before after : List ℕ) : Type 0 where

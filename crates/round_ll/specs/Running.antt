@@ -14,7 +14,7 @@ use Rattle.round_ll.specs.declared.stopped.Stopped.{Stopped}
 use Rattle.round_ll.specs.declared.stopped.Stopped.TheVariants as stop
 use Rattle.llvm_core.specs.Module.{Module}
 use Rattle.llvm_core.specs.Data.{data_of}
-use Rattle.llvm_core.specs.Form.{AreHeld}
+use Rattle.held_types.specs.Held.{AreHeld}
 use Rattle.from_llvm_ir.specs.Refusals.{IsValid}
 use Rattle.transfer.specs.declared.transferred.Transferred.{Transferred}
 use Rattle.transfer.specs.declared.transfer_err.TransferErr.{TransferErr}

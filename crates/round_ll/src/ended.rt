@@ -110,7 +110,7 @@ fn refusal_head(e: &TransferErr) -> &'static str
     match e {
         TransferErr::Import(ConversionErr::UndefinedValue(..)) => "import UndefinedValue: ",
         TransferErr::Import(ConversionErr::Unsupported(Unsupported::Ty(of))) => other_head(*of),
-        TransferErr::Import(ConversionErr::Unsupported(Unsupported::Struct)) => "import Struct",
+        TransferErr::Import(ConversionErr::Struct(_)) => "import Struct",
         TransferErr::Import(ConversionErr::NoMemory) => "import NoMemory",
         TransferErr::Export(ToLLVMErr::UndefinedValue(_)) => "export UndefinedValue: ",
         TransferErr::Export(ToLLVMErr::UndefinedBlock(_)) => "export UndefinedBlock: ",

@@ -5,6 +5,7 @@ ghost use Rattle.std.specs.Prelude.{◌≡◌, ◌++◌, ℕ, List, [], IfOk, If
 ghost use Rattle.llvm_core.specs.Module.{Module};
 ghost use Rattle.llvm_core.specs.Sound.{IsModule};
 ghost use Rattle.llvm_core.specs.Data.{data_of, AreApart};
+ghost use Rattle.dialect_types.specs.Trees.{structs_of};
 ghost use Rattle.dialect_core.specs.Data as D;
 ghost use Rattle.dialect_core.specs.Text.{module_text};
 ghost use Rattle.to_llvm_ir.specs.Held.{IsReadable as IsExportable};
@@ -49,10 +50,17 @@ fn know_sound(m: &LLVMModule)
 /// The report of an import.
 fn report_of(alloc: Global, source: &LLVMModule, begun: &Begun) -> Result<Vec<u8>, AllocError>
     requires { AllNamed (length source.now.functions) begun.now.imported.blocks }
-    ensures { IfOk result (λ text. text.items ≡ report_text (data_of source.now) begun.now.imported.blocks) }
+    ensures { IfOk result (λ text. text.items ≡ report_text (data_of source.now) begun.now.imported.structs.items begun.now.imported.blocks) }
 {
     let mut text = Vec::new(alloc);
-    print_report(alloc, source, begun.imported.blocks.as_slice(), &mut text)?;
+    let imported = &begun.imported;
+    print_report(
+        alloc,
+        source,
+        imported.structs.as_slice(),
+        imported.blocks.as_slice(),
+        &mut text,
+    )?;
     Ok(text)
 }
 
@@ -69,7 +77,7 @@ fn roomy(alloc: Global, room: usize) -> Vec<u8>
 /// The text of the dialect module, and the line behind it. The bytes have that much room from the first, if they can.
 fn dialect_text(alloc: Global, begun: &Begun, room: usize) -> Result<Vec<u8>, AllocError>
     requires { IsExportable begun.now.ctx begun.now.imported.«module».0.0 }
-    ensures { IfOk result (λ text. text.items ≡ module_text (D.data_of begun.now.ctx begun.now.imported.«module».0.0) ++ codes ";; llvm\n") }
+    ensures { IfOk result (λ text. text.items ≡ module_text (structs_of begun.now.ctx.types) (D.data_of begun.now.ctx begun.now.imported.«module».0.0) ++ codes ";; llvm\n") }
 {
     let mut text = roomy(alloc, room);
     begun.ctx.print_module(begun.imported.module, &mut text)?;
