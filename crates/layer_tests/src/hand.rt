@@ -1,7 +1,7 @@
 //! Dialect modules made by hand, each by a row of steps. No text of the form gives most of them.
 
-ghost use Rattle.std.specs.Prelude.{ℕ, ◌≡◌, ◌<◌, ◌≤◌, IsTrue, IfOk, IfSome, OnOk, All, Some, length};
-ghost use Rattle.dialect_types.specs.Trees.{type_at, type_tree, type_trees, HasFitParts, HasPartsBelow};
+ghost use Rattle.std.specs.Prelude.{ℕ, ◌≡◌, ◌<◌, ◌≤◌, IsTrue, IfOk, IfSome, OnOk, All, Some, false, length};
+ghost use Rattle.dialect_types.specs.Trees.{is_named, type_at, type_tree, type_trees, HasFitParts, HasPartsBelow};
 ghost use Rattle.kinds.specs.Held.{IsShallow};
 ghost use Rattle.dialect_core.specs.declared.ops.OpKind.TheVariants as kinds;
 ghost use Rattle.dialect_core.specs.ContextData.{empty_context, holder_kind, is_plain, HoldsMore, IsValueWithin, IsSuccessorWithin};
@@ -143,12 +143,13 @@ fn edges(alloc: Global, ctx: &Context, root: ModuleOp, edges: &[Edge]) -> Option
 
 // ---- types
 
-/// A type of the context.
+/// A type of the context, no struct with a name.
 fn intern(ctx: &mut Context, kind: TypeKind) -> Result<TypeHandle, AllocError>
     requires typed { IsTyped ctx.old }
     requires parts { HasPartsBelow (length ctx.old.types) kind }
     requires fit { HasFitParts (type_trees ctx.old.types) kind }
     requires nesting { IsShallow (type_tree (type_trees ctx.old.types) kind) }
+    requires plain { is_named kind ≡ false }
     ensures typed { OnOk result (IsTyped ctx.new) }
     ensures tree { IfOk result (λ t. type_at (type_trees ctx.new.types) t ≡ type_tree (type_trees ctx.old.types) kind) }
     ensures within { IfOk result (λ t. t.0 < length ctx.new.types) }

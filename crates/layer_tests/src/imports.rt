@@ -59,7 +59,7 @@ const TWO_TEXT: &str = "builtin.module @_ {
 }
 ";
 
-/// Imports a module into a context that may hold others. None says that there is no memory.
+/// Imports a module into a context that may hold others. None says that it is not taken.
 fn import_into(alloc: Global, ctx: &mut Context, module: &LLVMModule) -> Option<ModuleOp>
     requires form { IsForm (data_of «module».now) }
     requires typed { IsTyped ctx.old }
@@ -73,8 +73,8 @@ fn import_into(alloc: Global, ctx: &mut Context, module: &LLVMModule) -> Option<
     }
 }
 
-/// Imports the module of a text into a context. None says that there is no memory.
-fn import_text(alloc: Global, ctx: &mut Context, text: &str) -> Option<ModuleOp>
+/// Imports the module of a text into a context. None says that it is not taken.
+pub fn import_text(alloc: Global, ctx: &mut Context, text: &str) -> Option<ModuleOp>
     requires typed { IsTyped ctx.old }
     ensures typed { IsTyped ctx.new }
     ensures more { length ctx.old.ops ≤ length ctx.new.ops }
@@ -87,7 +87,7 @@ fn import_text(alloc: Global, ctx: &mut Context, text: &str) -> Option<ModuleOp>
 }
 
 /// Whether a module of a context has this dialect text.
-fn has_text(alloc: Global, ctx: &Context, root: ModuleOp, want: &str) -> bool
+pub fn has_text(alloc: Global, ctx: &Context, root: ModuleOp, want: &str) -> bool
     requires there { root.0.0 < length ctx.now.ops }
     requires typed { IsTyped ctx.now }
 {

@@ -33,6 +33,10 @@ mod runs;
 #[cfg(test)]
 mod sizes;
 #[cfg(test)]
+mod struct_imports;
+#[cfg(test)]
+mod struct_stores;
+#[cfg(test)]
 mod structs;
 #[cfg(test)]
 mod traces;

@@ -361,3 +361,60 @@ fn a_type_of_a_thousand_levels_goes_round_and_a_deeper_one_does_not(rt: HostRunt
         assert!(rt; fault.is_empty(), "{fault} at {levels}");
     }
 }
+
+// ---- structs that nest deep
+
+/// Appends a struct that has the one of the next number in it.
+fn push_struct(alloc: Global, text: &mut String, number: u32) -> Result<(), AllocError> {
+    let next = number.saturating_add(1);
+    let line = format!(in alloc; "%s{number} = type {{ %s{next} }}\n")?;
+    text.push_str(line.as_str())
+}
+
+/// A text of so many structs, each in the one before it, and of a function that takes the first.
+fn structs_nested(alloc: Global, count: u32) -> Result<String, AllocError> {
+    let mut text = String::new(alloc);
+    for number in 1..count {
+        push_struct(alloc, &mut text, number)?;
+    }
+    let last = format!(in alloc; "%s{count} = type opaque\n")?;
+    text.push_str(last.as_str())?;
+    text.push_str("define void @f(%s1 %a) {\n  ret void\n}\n")?;
+    Ok(text)
+}
+
+/// What is wrong with how `round` ends over such a text.
+fn structs_fault(alloc: Global, count: u32, end: &End<'_>) -> &'static str {
+    match structs_nested(alloc, count) {
+        Ok(text) => round_fault(alloc, text.as_bytes(), &[], end),
+        Err(_) => "no memory",
+    }
+}
+
+/// How it ends where the function's type is one level above 999 structs, the most, and above one more.
+const STRUCT_ENDS: &[(u32, End)] = &[
+    (
+        999,
+        End {
+            status: 0,
+            out: Out::EndsWith(b"\nstruct \"s998\" s998\nstruct \"s999\" s999\nblocks @f 0\n"),
+            line: "",
+        },
+    ),
+    (
+        1000,
+        End {
+            status: 6,
+            out: Out::Is(b""),
+            line: "NotYet\n",
+        },
+    ),
+];
+
+#[test]
+fn structs_of_a_thousand_levels_go_round_and_deeper_ones_do_not(rt: HostRuntime) {
+    for (count, end) in STRUCT_ENDS {
+        let fault = structs_fault(rt.alloc(), *count, end);
+        assert!(rt; fault.is_empty(), "{fault} at {count}");
+    }
+}

@@ -1,6 +1,5 @@
-//! The traces of a loop that swaps and of a function of operations on integers, each of a function of LLVM and of the
-//! dialect function that stands for it; that of a function of values of structs with a name, which is not imported; and that
-//! of a dialect function that uses a value of another.
+//! The traces of a loop that swaps, of a function of operations on integers and of one of values of structs with a name, each of
+//! a function of LLVM and of the dialect function that stands for it; and that of a dialect function that uses a value of another.
 
 ghost use Rattle.std.specs.Prelude.{◌≡◌, ◌<◌, All, IfOk, IfSome, length};
 ghost use Rattle.llvm_core.specs.Checked.{IsChecked};
@@ -72,17 +71,20 @@ const SHOWN: &str =
     "^0 udiv i32 i32 %0 %1 srem i32 i32 !0 %1 mul i32 i32 sub %0 freeze i8 trunc zext i8 !3 \
 xor i32 i32 !4 !0 select i1 i32 i32 %2 !5 %0 ret i8 trunc";
 
-/// Values of structs with a name.
-const STRUCTS: &str = "%S = type { i8, %T } %T = type opaque
-define %S @f(%T %a, %S %b) {
-  %c = freeze %T %a
-  %d = freeze %S %b
-  ret %S %d
+/// Values of structs with a name, of which one needs another name.
+const STRUCTS: &str = "%S = type { i8, %T.1 } %T.1 = type opaque
+define %S @f(%T.1 %a, %S %b, i1 %c) {
+  %d = freeze %T.1 %a
+  %e = freeze %S %b
+  %g = select i1 %c, %S %e, %S %b
+  ret %S %g
 }
 ";
 
-/// What the trace of the source shows; the import refuses it.
-const STRUCTS_SHOWN: &str = "^0 freeze T %0 freeze S %1 ret S !1";
+/// What the traces of the source and of the dialect show: each says the struct by its own name.
+const STRUCTS_SOURCE: &str = "^0 freeze T.1 %0 freeze S %1 select i1 S S %2 !1 %1 ret S !2";
+
+const STRUCTS_DIALECT: &str = "^0 freeze T_1 %0 freeze S %1 select i1 S S %2 !1 %1 ret S !2";
 
 /// Two functions, of which the first branches on a value of the second.
 const FOREIGN: &[Step] = &[
@@ -271,12 +273,12 @@ fn imported_shows(alloc: Global, module: &LLVMModule, want: &str) -> bool
     }
 }
 
-/// Whether the trace of a text's first function, and that of what the import makes of it, show these words.
-fn both_show(alloc: Global, text: &str, want: &str) -> (bool, bool) {
+/// Whether the trace of a text's first function shows the first words, and that of what the import makes of it the others.
+fn both_show(alloc: Global, text: &str, want: &str, dialect: &str) -> (bool, bool) {
     match read_ll(alloc, text.as_bytes()) {
         Ok(module) => (
             llvm_shows(alloc, &module, want),
-            imported_shows(alloc, &module, want),
+            imported_shows(alloc, &module, dialect),
         ),
         Err(_) => (false, false),
     }
@@ -284,23 +286,23 @@ fn both_show(alloc: Global, text: &str, want: &str) -> (bool, bool) {
 
 #[test]
 fn both_sides_swap(rt: HostRuntime) {
-    let (source, dialect) = both_show(rt.alloc(), SWAP, WANT);
+    let (source, dialect) = both_show(rt.alloc(), SWAP, WANT, WANT);
     assert!(rt; source, "the source");
     assert!(rt; dialect, "the dialect");
 }
 
 #[test]
 fn both_sides_show_operations(rt: HostRuntime) {
-    let (source, dialect) = both_show(rt.alloc(), OPERATIONS, SHOWN);
+    let (source, dialect) = both_show(rt.alloc(), OPERATIONS, SHOWN, SHOWN);
     assert!(rt; source, "the source");
     assert!(rt; dialect, "the dialect");
 }
 
 #[test]
-fn the_source_shows_structs(rt: HostRuntime) {
-    let (source, dialect) = both_show(rt.alloc(), STRUCTS, STRUCTS_SHOWN);
+fn both_sides_show_structs(rt: HostRuntime) {
+    let (source, dialect) = both_show(rt.alloc(), STRUCTS, STRUCTS_SOURCE, STRUCTS_DIALECT);
     assert!(rt; source, "the source");
-    assert!(rt; !dialect, "the dialect");
+    assert!(rt; dialect, "the dialect");
 }
 
 #[test]

@@ -6,4 +6,4 @@ pub print_ll-requires-clause-names : goal.print_ll-requires-clause-names
 print_ll-requires-clause-names c = distinct_of_checked c.args.m.now c.requires.checked
 
 pub print_ll-requires-clause-few : goal.print_ll-requires-clause-few
-print_ll-requires-clause-few c = few_of_checked c.args.m.now c.requires.checked c.requires.sound
+print_ll-requires-clause-few c = few_of_checked c.args.m.now c.requires.checked c.types-count.ensures.sound
