@@ -88,14 +88,32 @@ def fields(size):
     return f"define void @f({{ {body} }} %s) {{\n  ret void\n}}\n"
 
 
+def held_struct(number):
+    """A struct with a name, which has one that stands before it in it, and a function that takes it."""
+    inner = f"[2 x %S{number // 2}], " if number else ""
+    return f"%S{number} = type {{ {inner}i32 }}\ndefine void @f{number}({{ i8, %S{number} }} %s) {{\n  ret void\n}}\n"
+
+
+def taken(name, size):
+    """Structs of these names, and a function that takes all of them."""
+    structs = repeated(lambda k: f"%{name(k)} = type {{ i32 }}\n", 2 * size // 3)
+    count = structs.count("\n")
+    return structs + f"define void @f({', '.join(f'%{name(k)}' for k in range(count))}) {{\n  ret void\n}}\n"
+
+
 def named_fields(size):
-    """A struct with a name and many fields."""
+    """A struct with a name and many fields, which no value holds."""
     body = repeated(lambda k: f"{', ' if k else ''}i{1 + k % 64}", size)
     return f"%S = type {{ {body} }}\n"
 
 
+def held_fields(size):
+    """A struct with a name and many fields, and a function that takes it."""
+    return named_fields(size) + "define void @f(%S %s) {\n  ret void\n}\n"
+
+
 def named_struct(number):
-    """A struct with a name, which has two that stand before it in it."""
+    """A struct with a name, which has two that stand before it in it, and which no value holds."""
     inner = f"%S{number // 2}, [2 x %S{number // 3}], " if number else ""
     return f"%S{number} = type {{ {inner}i32 }}\n"
 
@@ -123,6 +141,10 @@ KINDS = {
     "a struct of many fields": fields,
     "structs with names": lambda size: repeated(named_struct, size),
     "a named one of many fields": named_fields,
+    "held structs": lambda size: repeated(held_struct, size),
+    "a held one of many fields": held_fields,
+    "taken ones, plain names": lambda size: taken(plain, size),
+    "taken ones, one identifier": lambda size: taken(alike, size),
 }
 
 

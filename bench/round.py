@@ -4,8 +4,9 @@
 First texts of 1, 4 and 16 MiB of two kinds: functions that each return an integer, and functions of a hundred adds
 each. Then control flow, a tenth of each text and the whole: many blocks that all branch to one block with three
 phis, a ladder of conditional branches, functions of a hundred blocks, a chain of blocks that stands in the text from
-its end, and a web of blocks that branch anywhere. Then names: functions and results whose names all come to one
-identifier beside those of plain names, and long names between quotes, without escapes and with them, beside bare ones.
+its end, and a web of blocks that branch anywhere; and structs with a name, each held by a parameter. Then names:
+functions and results whose names all come to one identifier beside those of plain names, and long names between quotes,
+without escapes and with them, beside bare ones.
 Beside each stands `opt -S -passes=verify` of an installed LLVM, where there is one.
 A last line for each kind says how the time per byte of the largest stands to that of the smallest, or that of other
 names to that of plain ones; more than 1.5 is more than wanted.
@@ -21,7 +22,7 @@ import tempfile
 import time
 
 import name_texts
-from counts import named
+from counts import held_struct, named
 
 ROOT = pathlib.Path(__file__).resolve().parent.parent
 MIB = 1 << 20
@@ -107,6 +108,11 @@ def web(count):
     return ("define void @web(i32 %n) {\n  %x = add i32 %n, 1\n  br label %b0\n" + "".join(blocks[:1] + rest) + "}\n")
 
 
+def held(count):
+    """Structs with a name, each in later ones and held by the type of a parameter of a function."""
+    return "".join(map(held_struct, range(count)))
+
+
 def text_of(item_of, size, count=None):
     """Functions, at most as many as the count, shorter than the size by one function's bytes at most."""
     lines, length, number = [], 0, 0
@@ -145,7 +151,8 @@ def main():
     for item_of in (answer, sums):
         print(item_of.__doc__)
         compare(built, opt, [(f"{size} MiB", text_of, item_of, size * MIB) for size in (1, 4, 16)])
-    for whole_of, count in ((fan, 20000), (ladder, 50000), (hundreds, 10000), (chain, 100000), (web, 150000)):
+    for whole_of, count in ((fan, 20000), (ladder, 50000), (hundreds, 10000), (chain, 100000), (web, 150000),
+                            (held, 100000)):
         print(whole_of.__doc__)
         compare(built, opt, [("tenth", whole_of, count // 10), ("whole", whole_of, count)])
     print(symbols.__doc__)

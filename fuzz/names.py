@@ -36,9 +36,14 @@ def escaped(byte):
     return chr(byte) if 32 <= byte <= 126 and byte != 34 else f"\\{byte:02X}"
 
 
+def printed_text(text):
+    """A text between quotes in LLVM text."""
+    return '"' + "".join(map(escaped, bytes_of(text))) + '"'
+
+
 def printed(name):
     """A name in LLVM text."""
-    return name if BARE.match(name) else '"' + "".join(map(escaped, bytes_of(name))) + '"'
+    return name if BARE.match(name) else printed_text(name)
 
 
 def quoted(text):

@@ -9,7 +9,6 @@ SPACES = 1 << 24  # so many address spaces there are
 FLOATING = {"half": "fp16", "bfloat": "bf16", "float": "fp32", "double": "fp64"}  # with their words in the dialect
 # types that the dialect lacks, with the words by which they are refused
 LACKED = {"x86_fp80": "X86Fp80", "fp128": "Fp128", "ppc_fp128": "PpcFp128", "x86_amx": "X86Amx", "token": "Token"}
-NAMED = "Struct"  # the word by which a struct with a name is refused
 
 
 @dataclasses.dataclass(frozen=True)
@@ -61,6 +60,9 @@ class Named:
     def __str__(self):
         return "%" + printed(self.name)
 
+    def in_dialect(self):
+        return f"llvm.struct <@{self.name}>"
+
 
 @dataclasses.dataclass(frozen=True)
 class Array:
@@ -100,9 +102,13 @@ class Struct:
         body = f"{{ {', '.join(map(str, self.fields))} }}" if self.fields else "{}"
         return f"<{body}>" if self.packed else body
 
-    def in_dialect(self):
+    def body_in_dialect(self):
+        """What stands between the braces and what is before them, as it does beside the name of a struct."""
         fields = ", ".join(it.in_dialect() for it in self.fields)
-        return f"llvm.struct <{'packed ' if self.packed else ''}{{{fields}}}>"
+        return f"{'packed ' if self.packed else ''}{{{fields}}}"
+
+    def in_dialect(self):
+        return f"llvm.struct <{self.body_in_dialect()}>"
 
 
 BIT = Integer(1)
@@ -163,15 +169,38 @@ def struct_nesting(name, structs):
     return struct.depth
 
 
-def lacked_in(type):
-    """The words of the types that are not translated among those that a type is made of."""
-    if isinstance(type, (Array, Vector)):
-        return lacked_in(type.element)
-    if isinstance(type, Struct):
-        return [word for it in type.fields for word in lacked_in(it)]
+def renamed(type, names):
+    """A type with the structs that it names under other names; none stays none."""
     if isinstance(type, Named):
-        return [NAMED]
-    return [LACKED[type.word]] if isinstance(type, Lacked) else []
+        return Named(names[type.name])
+    if isinstance(type, Array):
+        return Array(type.count, renamed(type.element, names))
+    if isinstance(type, Struct):
+        return Struct(type.packed, tuple(renamed(it, names) for it in type.fields))
+    return type
+
+
+class Held:
+    """What types hold that are gone through one after the other, through the fields of structs too: `made` has the
+    names of the structs in the order in which they can be made, each behind those that its fields hold, and `lacked` the
+    word of the first type met that the dialect lacks."""
+
+    def __init__(self, structs):
+        """Of types that may name these structs, which are given by name."""
+        self.structs, self.met, self.made, self.lacked = structs, set(), [], None
+
+    def take(self, type):
+        if isinstance(type, Lacked):
+            self.lacked = self.lacked or LACKED[type.word]
+        elif isinstance(type, (Array, Vector)):
+            self.take(type.element)
+        elif isinstance(type, Struct):
+            for it in type.fields:
+                self.take(it)
+        elif isinstance(type, Named) and type.name not in self.met:
+            self.met.add(type.name)
+            self.take(self.structs[type.name].body)
+            self.made.append(type.name)
 
 
 def is_integer(type):
