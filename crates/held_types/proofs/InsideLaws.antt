@@ -176,27 +176,34 @@ module _ (m : Module) where
 
   -- ---- by the fields of structs
 
+  -- the struct of a number, as the module keeps it
+  struct_from : (n : ℕ) (st : Struct) → slice_get (structs_of m) n ≡ Some st → (x : StructData) × (slice_get m.structs n ≡ Some x) × (struct_of trees x ≡ st)
+  struct_from n st there = by (slice_get m.structs n) refl (sym (slice_get-map (struct_of trees) m.structs n) ∙ there)
+    where
+      by : (o : Option StructData) → slice_get m.structs n ≡ o → option_map (struct_of trees) o ≡ Some st → (x : StructData) × (slice_get m.structs n ≡ Some x) × (struct_of trees x ≡ st)
+      by None at e = cc
+      by (Some x) at e = (x, at, same_Some (struct_of trees x) st e)
+
+  body_from : (x : StructData) (b : StructBody) → option_map (fields_of trees) x.body ≡ Some b → (f : StructFields) × (x.body ≡ Some f) × (fields_of trees f ≡ b)
+  body_from x b e = by x.body refl e
+    where
+      by : (o : Option StructFields) → x.body ≡ o → option_map (fields_of trees) o ≡ Some b → (f : StructFields) × (x.body ≡ Some f) × (fields_of trees f ≡ b)
+      by None has e = cc
+      by (Some f) has e = (f, has, same_Some (fields_of trees f) b e)
+
+  -- what a field of it holds
+  pub field_at : (s : LLVMStruct) (u : TypeTree) (st : Struct) (b : StructBody) (v : TypeTree) (i : ℕ) → slice_get (structs_of m) s.0 ≡ Some st → st.body ≡ Some b → slice_get (types_list b.fields) i ≡ Some v → Holds (structs_of m) u v → IsInFields m s u
+  field_at s u st b v i there has at h =
+      let x = struct_from s.0 st there in
+      let f = body_from x.0 b (ap (λ (y : Struct). y.body) x.2 ∙ has) in
+      (x.0, f.0, x.1, f.1, among_from f.0.types i u v (ap (λ (y : StructBody). slice_get (types_list y.fields) i) f.2 ∙ at) h)
+
   module _ (name : List ℕ) (s : LLVMStruct) (is : IsStructOf (data_of m) name s) where
     pub struct_here : (x : StructData) × (slice_get m.structs s.0 ≡ Some x) × (struct_of trees x ≡ is.struct)
-    struct_here = by (slice_get m.structs s.0) refl (sym (slice_get-map (struct_of trees) m.structs s.0) ∙ is.at)
-      where
-        by : (o : Option StructData) → slice_get m.structs s.0 ≡ o → option_map (struct_of trees) o ≡ Some is.struct → (x : StructData) × (slice_get m.structs s.0 ≡ Some x) × (struct_of trees x ≡ is.struct)
-        by None at e = cc
-        by (Some x) at e = (x, at, same_Some (struct_of trees x) is.struct e)
-
-    body_from : (x : StructData) (b : StructBody) → option_map (fields_of trees) x.body ≡ Some b → (f : StructFields) × (x.body ≡ Some f) × (fields_of trees f ≡ b)
-    body_from x b e = by x.body refl e
-      where
-        by : (o : Option StructFields) → x.body ≡ o → option_map (fields_of trees) o ≡ Some b → (f : StructFields) × (x.body ≡ Some f) × (fields_of trees f ≡ b)
-        by None has e = cc
-        by (Some f) has e = (f, has, same_Some (fields_of trees f) b e)
+    struct_here = struct_from s.0 is.struct is.at
 
     field_from : (u : TypeTree) (st : Struct) (b : StructBody) (v : TypeTree) (i : ℕ) → struct_in (structs_of m) name ≡ Some st → st.body ≡ Some b → slice_get (types_list b.fields) i ≡ Some v → Holds (structs_of m) u v → IsInFields m s u
-    field_from u st b v i found has at h =
-        let x = struct_here in
-        let same : struct_of trees x.0 ≡ st = x.2 ∙ same_Some is.struct st (sym is.first ∙ found) in
-        let f = body_from x.0 b (ap (λ (y : Struct). y.body) same ∙ has) in
-        (x.0, f.0, x.1, f.1, among_from f.0.types i u v (ap (λ (y : StructBody). slice_get (types_list y.fields) i) f.2 ∙ at) h)
+    field_from u st b v i found has at h = field_at s u st b v i (is.at ∙ sym is.first ∙ found) has at h
 
     pub in_named : IsSplit (λ u. Holds (structs_of m) u (NamedType name)) (λ u. u ≡ NamedType name) (IsInFields m s)
     in_named u asked h = elim (holds_by (structs_of m) u (NamedType name) h) [

@@ -7,7 +7,7 @@ use Rattle.std.proofs.lemmas.List.Elements.{All-head, All-tail}
 use Rattle.std.proofs.lemmas.Option.{same_Some, slice_get-map, slice_get_within}
 use Rattle.support.proofs.ListLaws.{item_there, slice_get-behind, slice_get-behind_cases, slice_get-kept}
 use Rattle.kinds.specs.declared.types.OtherType.{OtherType}
-use Rattle.kinds.specs.Types.{TypeTree, TypeTrees, NoTypes, ThenType, RefusedType, FunctionType, result_of, params_of, types_list}
+use Rattle.kinds.specs.Types.{TypeTree, TypeTrees, NoTypes, ThenType, RefusedType, NamedType, FunctionType, result_of, params_of, types_list}
 use Rattle.kinds.specs.Held.{deepest}
 use Rattle.kinds.specs.Structs.{Holds, IsNested, each_type, nests}
 use Rattle.kinds.proofs.NestLaws.{parts_nested}
@@ -35,7 +35,7 @@ use Rattle.held_types.specs.Held.{AreHeldStructs, HasTypeWith}
 use Rattle.held_types.specs.Values.{IsInSignature, IsInSignatures, IsInResult, IsInResults}
 use Rattle.held_types.specs.Walk.{IsIn, IsAmong, IsCause, Walked}
 use Rattle.held_types.proofs.WalkLaws.{IsWithin, IsSplit, walked_both}
-use Rattle.held_types.proofs.InsideLaws.{listed_at, listed_from}
+use Rattle.held_types.proofs.InsideLaws.{listed_at, listed_from, field_at}
 
 -- ---- what readers answer
 
@@ -230,6 +230,7 @@ held_by_walk m a c empty h = record {
     | inr new ↦ new
   ];
   all = λ name w. h.met.named name w;
+  behind = λ i n s b k t name at there has here holds. h.walk.behind i n at name (field_at m n (NamedType name) s b t k there has here holds);
 }
 
 pub lacks_by : (W V : TypeTree → Type 0) → IsWithin W V → (e : HeldErr) → IsCause W e → (of : OtherType) → e ≡ E.Lacks of → V (RefusedType of)

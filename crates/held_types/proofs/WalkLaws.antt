@@ -1,8 +1,9 @@
 -- How walks are put together: by what holds of the types that are asked about, whichever way that is said.
-use Rattle.std.proofs.Common.{ℕ, ◌≡◌, ◌⊎◌, inl, inr, ◌∙◌, refl, sym, ap, subst, Bool, true, List, [], ◌∷◌, ◌++◌, Some, length, slice_get, slice_set}
+use Rattle.std.proofs.Common.{ℕ, ◌≡◌, ◌⊎◌, inl, inr, ◌∙◌, refl, sym, ap, subst, Bool, true, List, [], ◌∷◌, ◌++◌, Some, length, slice_get, slice_set, arith}
 use Rattle.std.specs.Prelude as R
 use Rattle.std.specs.Result.{IfErr, IsErrAnd}
 use Rattle.std.proofs.lemmas.Result.{err_from_is_err_and}
+use Rattle.std.proofs.lemmas.Option.{slice_get_within}
 use Rattle.support.proofs.ListLaws.{slice_get-kept, slice_get-push, slice_get-push_cases, slice_get-set_cases, length-slice_set}
 use Rattle.kinds.specs.Types.{TypeTree, RefusedType, NamedType}
 use Rattle.llvm_core.specs.declared.numbers.LLVMType.{LLVMType}
@@ -13,7 +14,7 @@ use Rattle.held_types.specs.declared.held_structs.HeldErr.{HeldErr}
 use Rattle.held_types.specs.declared.held_structs.HeldErr.TheVariants as E
 use Rattle.held_types.specs.declared.walk.Walk.{Walk}
 use Rattle.held_types.specs.Held.{IsStructOf}
-use Rattle.held_types.specs.Walk.{IsIn, IsListed, AreMet, Walked, IsCause}
+use Rattle.held_types.specs.Walk.{IsIn, IsInFields, IsListed, AreBehind, AreMet, Walked, IsCause}
 
 -- what is asked about: types that the dialect lacks, and structs with a name
 abbrev pub IsAsked : TypeTree → Type 0
@@ -62,6 +63,19 @@ module _ (m : Module) where
   pub met_as : (W V : TypeTree → Type 0) (ns : List LLVMStruct) → IsWithin V W → AreMet m W ns → AreMet m V ns
   met_as W V ns from h = record { none = λ of v. h.none of (from (RefusedType of) tt v); named = λ name v. h.named name (from (NamedType name) tt v) }
 
+  -- ---- what stands behind what
+
+  -- a struct that is listed behind what its fields hold
+  pub behind_pushed : (ns : List LLVMStruct) (s : LLVMStruct) → AreBehind m ns → ((name : List ℕ) → IsInFields m s (NamedType name) → IsListed m ns name) → AreBehind m (ns ++ s ∷ [])
+  behind_pushed ns s behind fields i n at name w = elim (slice_get-push_cases ns s i n at) [
+    | inl old ↦ (let x = behind i n old name w in (x.0, x.1, x.2, slice_get-kept ns (s ∷ []) x.0 x.1 x.3, x.4))
+    | inr new ↦ (
+        let x = fields name (subst (λ (k : LLVMStruct). IsInFields m k (NamedType name)) new.1 w) in
+        let lt = slice_get_within ns x.0 x.1 x.2 in
+        (x.0, x.1, omega (arith, lt, new.0), slice_get-kept ns (s ∷ []) x.0 x.1 x.2, x.3)
+        )
+  ]
+
   -- ---- walks
 
   pub walked_as : (W V : TypeTree → Type 0) (a b : Walk) → IsWithin W V → IsWithin V W → Walked m W a b → Walked m V a b
@@ -88,15 +102,16 @@ module _ (m : Module) where
   }
 
   -- a struct is listed behind what its fields hold
-  pub walked_listed : (V W : TypeTree → Type 0) (name : List ℕ) (s : LLVMStruct) (a b c : Walk) → Walked m V a b → IsStructOf (data_of m) name s → c.seen.items ≡ b.seen.items → c.order.items ≡ b.order.items ++ s ∷ []
-      → IsSplit W (λ u. u ≡ NamedType name) V → W (NamedType name) → IsWithin V W → Walked m W a c
-  walked_listed V W name s a b c h is seen order split itself inside =
+  pub walked_listed : (W : TypeTree → Type 0) (name : List ℕ) (s : LLVMStruct) (a b c : Walk) → Walked m (IsInFields m s) a b → IsStructOf (data_of m) name s → c.seen.items ≡ b.seen.items → c.order.items ≡ b.order.items ++ s ∷ []
+      → IsSplit W (λ u. u ≡ NamedType name) (IsInFields m s) → W (NamedType name) → IsWithin (IsInFields m s) W → Walked m W a c
+  walked_listed W name s a b c h is seen order split itself inside =
       let kept : (i : ℕ) (n : LLVMStruct) → slice_get b.order.items i ≡ Some n → slice_get c.order.items i ≡ Some n = λ i n at. ap (λ (ns : List LLVMStruct). slice_get ns i) order ∙ slice_get-kept b.order.items (s ∷ []) i n at in
       let last : slice_get c.order.items (length b.order.items) ≡ Some s = ap (λ (ns : List LLVMStruct). slice_get ns (length b.order.items)) order ∙ slice_get-push b.order.items s (length b.order.items) refl in
       record {
         walk = record {
           count = ap length seen ∙ h.walk.count;
           marked = λ t at. met_more (IsIn m t) b.order.items c.order.items kept (h.walk.marked t (ap (λ (bs : List Bool). slice_get bs t.0) (sym seen) ∙ at));
+          behind = subst (AreBehind m) (sym order) (behind_pushed b.order.items s h.walk.behind h.met.named);
         };
         kept = λ i n at. kept i n (h.kept i n at);
         met = record {
@@ -124,6 +139,7 @@ module _ (m : Module) where
             | inl here ↦ (let same : t ≡ u = ap type_of_number (sym here.0) in subst (λ (v : LLVMType). AreMet m (IsIn m v) c.order.items) same met)
             | inr there ↦ met_more (IsIn m u) b.order.items c.order.items kept (h.walk.marked u there)
           ];
+          behind = subst (AreBehind m) (sym order) h.walk.behind;
         };
         kept = λ i n at. kept i n (h.kept i n at);
         met = met;

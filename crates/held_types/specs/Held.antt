@@ -1,8 +1,8 @@
 -- What the values of a module hold: types for which the dialect has none, and structs with a name.
-use Rattle.std.specs.Prelude.{ℕ, ◌≡◌, List, Some, slice_get}
+use Rattle.std.specs.Prelude.{ℕ, ◌≡◌, ◌<◌, List, Some, slice_get}
 use Rattle.kinds.specs.declared.types.OtherType.{OtherType}
-use Rattle.kinds.specs.Types.{TypeTree, RefusedType, NamedType}
-use Rattle.kinds.specs.Structs.{Struct, Holds, struct_in}
+use Rattle.kinds.specs.Types.{TypeTree, RefusedType, NamedType, types_list}
+use Rattle.kinds.specs.Structs.{Struct, StructBody, Holds, struct_in}
 use Rattle.llvm_core.specs.declared.numbers.LLVMStruct.{LLVMStruct}
 use Rattle.llvm_core.specs.Data.{Function, ModuleData}
 use Rattle.llvm_core.specs.Form.{value_types}
@@ -33,3 +33,7 @@ pub record IsStructOf (d : ModuleData) (name : List ℕ) (n : LLVMStruct) : Type
 pub record AreHeldStructs (d : ModuleData) (ns : List LLVMStruct) : Type 0 where
   pub each : (i : ℕ) (n : LLVMStruct) → slice_get ns i ≡ Some n → (name : List ℕ) × IsStructOf d name n × HasTypeWith d (NamedType name)
   pub all : (name : List ℕ) → HasTypeWith d (NamedType name) → (i : ℕ) × (n : LLVMStruct) × (slice_get ns i ≡ Some n) × IsStructOf d name n
+  -- each stands behind those that its fields hold
+  pub behind : (i : ℕ) (n : LLVMStruct) (s : Struct) (b : StructBody) (k : ℕ) (t : TypeTree) (name : List ℕ)
+      → slice_get ns i ≡ Some n → slice_get d.structs n.0 ≡ Some s → s.body ≡ Some b → slice_get (types_list b.fields) k ≡ Some t → Holds d.structs (NamedType name) t
+      → (j : ℕ) × (m : LLVMStruct) × (j < i) × (slice_get ns j ≡ Some m) × IsStructOf d name m

@@ -1,5 +1,5 @@
 -- What a walk through types has met: of the types that are asked about, which are held, and the structs that were listed.
-use Rattle.std.specs.Prelude.{ℕ, ◌≡◌, ◌⊎◌, true, List, Some, length, slice_get}
+use Rattle.std.specs.Prelude.{ℕ, ◌≡◌, ◌<◌, ◌⊎◌, true, List, Some, length, slice_get}
 use Rattle.kinds.specs.declared.types.OtherType.{OtherType}
 use Rattle.kinds.specs.Types.{TypeTree, RefusedType, NamedType}
 use Rattle.kinds.specs.Structs.{Holds}
@@ -39,15 +39,24 @@ IsInFields m s u = (x : StructData) × (b : StructFields) × (slice_get m.struct
 abbrev pub IsListed : Module → List LLVMStruct → List ℕ → Type 0
 IsListed m ns name = (i : ℕ) × (n : LLVMStruct) × (slice_get ns i ≡ Some n) × IsStructOf (data_of m) name n
 
+-- and stands before that place
+abbrev pub IsListedBefore : Module → List LLVMStruct → (i : ℕ) → List ℕ → Type 0
+IsListedBefore m ns i name = (j : ℕ) × (n : LLVMStruct) × (j < i) × (slice_get ns j ≡ Some n) × IsStructOf (data_of m) name n
+
+-- each struct that is listed stands behind those that its fields hold
+abbrev pub AreBehind : Module → List LLVMStruct → Type 0
+AreBehind m ns = (i : ℕ) (n : LLVMStruct) → slice_get ns i ≡ Some n → (name : List ℕ) → IsInFields m n (NamedType name) → IsListedBefore m ns i name
+
 -- W holds of no type that the dialect lacks, and of each struct that it holds of the number is listed
 pub record AreMet (m : Module) (W : TypeTree → Type 0) (ns : List LLVMStruct) : Type 0 where
   pub none : (of : OtherType) → ¬ W (RefusedType of)
   pub named : (name : List ℕ) → W (NamedType name) → IsListed m ns name
 
--- what each marked type holds is met
+-- what each marked type holds is met, and so is what the fields of a struct hold before it is listed
 pub record IsWalk (m : Module) (w : Walk) : Type 0 where
   pub count : length w.seen.items ≡ length m.types
   pub marked : (t : LLVMType) → slice_get w.seen.items t.0 ≡ Some true → AreMet m (IsIn m t) w.order.items
+  pub behind : AreBehind m w.order.items
 
 -- a walk through what W holds of: it is met, and nothing else is listed
 pub record Walked (m : Module) (W : TypeTree → Type 0) (old new : Walk) : Type 0 where

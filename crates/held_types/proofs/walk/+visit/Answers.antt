@@ -116,7 +116,7 @@ visit_named-returns-clause-walk t c =
     let name = c.args.name.now in
     let s = c.first-s.result in
     let is = named_struct m c.args.table.now name c.args.left s c.requires.1.1.0 c.requires.1.1.1.0 c.first-s.ensures in
-    walked_listed m (IsInFields m s) (λ u. Holds (structs_of m) u (NamedType name)) name s c.args.walk.now c.visit_fields.new.walk _ c.in_ok-visit_fields.ensures.walk is refl c.in_ok-push.ensures.items
+    walked_listed m (λ u. Holds (structs_of m) u (NamedType name)) name s c.args.walk.now c.visit_fields.new.walk _ c.in_ok-visit_fields.ensures.walk is refl c.in_ok-push.ensures.items
     (in_named m name s is) Itself (named_in m name s is)
 
 -- ---- the kind of a type: a line for each kind with parts
