@@ -146,6 +146,18 @@ module _ (to : List ℕ → List ℕ) (apart : (a b : List ℕ) → to a ≡ to 
       let p = field_before structs n.0 name s b v i n.2 is has at in
       subst (Holds structs (RefusedType of)) (sym n.1) (InField n.0 p.0 p.1 p.2 i p.3 p.4 p.5 (holds_before structs of v p.2 inside (sym p.6)))
 
+  names_before : (name : List ℕ) (u t : TypeTree) → Holds [] (NamedType name) u → u ≡ renamed to t → (n : List ℕ) × (to n ≡ name) × Holds [] (NamedType n) t
+  names_before name _ t Itself e = let n = named_before name t e in (n.0, n.2, subst (Holds [] (NamedType n.0)) (sym n.1) Itself)
+  names_before name _ t (InPart u v i at inside) e =
+      let p = part_before u v t i at e in
+      let n = names_before name v p.0 inside (sym p.2) in
+      (n.0, n.1, InPart t p.0 i p.1 n.2)
+  names_before name _ t (InField other s b v i is has at inside) e = absurd (let no : None ≡ Some s = is in cc)
+
+  -- what a type under other names names is the other name of what the type itself names
+  pub renamed_names_in : (name : List ℕ) (t : TypeTree) → Holds [] (NamedType name) (renamed to t) → (n : List ℕ) × (to n ≡ name) × Holds [] (NamedType n) t
+  renamed_names_in name t h = names_before name (renamed to t) t h refl
+
   -- a type holds no more of the types that the dialect lacks under other names
   pub renamed_holds : (structs : List Struct) (of : OtherType) (t : TypeTree) → Holds (map (renamed_struct to) structs) (RefusedType of) (renamed to t) → Holds structs (RefusedType of) t
   renamed_holds structs of t h = holds_before structs of (renamed to t) t h refl
