@@ -1,5 +1,5 @@
 -- Constants of the source and the operations that make them.
-use Rattle.std.proofs.Common.{ℕ, ◌≡◌, ◌<◌, ◌≤◌, ◌^◌, refl, sym, ap, subst, ◌∙◌, [], Some, None, slice_get, arith}
+use Rattle.std.proofs.Common.{ℕ, ◌≡◌, ◌<◌, ◌≤◌, ◌^◌, refl, sym, ap, subst, ◌∙◌, List, [], Some, None, slice_get, arith}
 use Rattle.std.proofs.Math.Nat.{pow-le-pow_right}
 use Rattle.llvm_core.specs.declared.numbers.LLVMType.{LLVMType}
 use Rattle.llvm_core.specs.declared.numbers.LLVMConst.{LLVMConst}
@@ -11,11 +11,14 @@ use Rattle.llvm_core.specs.Form.{IsShortConst}
 use Rattle.llvm_core.specs.Data.{ConstTree, IntConst, trees_of, type_at, const_at}
 use Rattle.llvm_core.proofs.DataLemmas.{int_tree_of, int_const_of, placeholder_const_of}
 use Rattle.kinds.specs.Held.{width_in, IsHeldResult}
+use Rattle.kinds.specs.Structs.{Struct}
 use Rattle.kinds.proofs.HeldLaws.{held_result_if, int_held}
 use Rattle.dialect_types.specs.Trees.{TypeTree, IntType, IntegerAttr}
 use Rattle.dialect_core.specs.Data.{ConstantOp}
 use Rattle.from_llvm_ir.specs.Building.{new_op}
 use Rattle.from_llvm_ir.specs.Known.{IsConstantOp}
+use Rattle.from_llvm_ir.specs.Types.{NamesAmong}
+use Rattle.from_llvm_ir.proofs.FoundLaws.{int_among}
 
 -- an integer is of an integer type, whose width is its own
 int_typed : (m : Module) (c : LLVMConst) (t : LLVMType) (v : ℕ) → IsModule m → slice_get m.consts c.0 ≡ Some (C.Int t v) → (w : ℕ) × (type_at (trees_of m).types t ≡ IntType w) × (const_at (trees_of m).consts c ≡ IntConst w v)
@@ -30,6 +33,10 @@ const_held m c t v sound at h =
     let p = int_typed m c t v sound at in
     let short = subst IsShortConst p.2 h in
     subst IsHeldResult (sym p.1) (held_result_if (IntType p.0) (int_held p.0 short.0.0 (omega (arith, short.0.1))))
+
+-- whose type names no struct
+pub const_among : (structs : List Struct) (m : Module) (c : LLVMConst) (t : LLVMType) (v : ℕ) → IsModule m → slice_get m.consts c.0 ≡ Some (C.Int t v) → NamesAmong structs (type_at (trees_of m).types t)
+const_among structs m c t v sound at = let p = int_typed m c t v sound at in subst (NamesAmong structs) (sym p.1) (int_among structs p.0)
 
 pub const_fits : (m : Module) (c : LLVMConst) (t : LLVMType) (v : ℕ) → slice_get m.consts c.0 ≡ Some (C.Int t v) → IsShortConst (const_at (trees_of m).consts c) → v < 2 ^ 64
 const_fits m c t v at h =

@@ -62,6 +62,10 @@ fields_nest structs (suc n) name s b h is has =
     let inner : each_type (nests structs n) b.fields ≡ true = subst (λ (o : Option StructBody). option_map_or (λ (x : StructBody). each_type (nests structs n) x.fields) o true ≡ true) has there in
     each_weaker (nests structs n) (nests structs (suc n)) (nests_more structs n) b.fields inner
 
+-- the type of a field stands among those of the fields
+pub field_listed : (trees : List TypeTree) (ts : List LLVMType) (i : ℕ) (t : LLVMType) → slice_get ts i ≡ Some t → slice_get (types_list (L.types_at trees ts)) i ≡ Some (L.type_at trees t)
+field_listed trees ts i t at = ap (λ (us : List TypeTree). slice_get us i) (sym (listed trees ts)) ∙ slice_get-map (λ (u : LLVMType). L.type_at trees u) ts i ∙ ap (option_map (λ (u : LLVMType). L.type_at trees u)) at
+
 module _ (d : ModuleData) (form : IsForm d) (taken : AreHeld d) where
   abbrev named_types : List TypeTree
   named_types = map (λ (s : Struct). NamedType s.name) d.structs

@@ -17,6 +17,7 @@ pub mod OpLaws
 pub mod UnderLaws
 pub mod SourceLaws
 pub mod KindLaws
+pub mod FoundLaws
 pub mod PartsLaws
 pub mod RefusedLaws
 pub mod RenamedWalks

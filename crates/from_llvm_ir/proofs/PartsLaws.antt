@@ -1,5 +1,5 @@
 -- From the names of structs, and from what is made under them, to what an import of all parts of a module promises.
-use Rattle.std.proofs.Common.{ℕ, zero, suc, ◌≡◌, ◌<◌, ◌≤◌, ◌+◌, ◌∙◌, refl, sym, ap, subst, Bool, true, false, if◌then◌else◌, List, [], ◌∷◌, ◌++◌, Option, Some, None, All, map, length, slice_get, append_assoc, append-nil, arith}
+use Rattle.std.proofs.Common.{ℕ, suc, ◌≡◌, ◌∙◌, refl, sym, ap, subst, Bool, true, false, if◌then◌else◌, List, [], ◌∷◌, ◌++◌, Some, None, All, map, length, slice_get, append_assoc, append-nil}
 use Rattle.std.specs.Option.{option_map}
 use Rattle.std.specs.List.{cons_option}
 use Rattle.std.specs.Str.{bytes_eq}
@@ -45,6 +45,8 @@ use Rattle.from_llvm_ir.specs.Refusals.{IsCause, IsCauseAfter, IsRefusalOfFuncti
 use Rattle.from_llvm_ir.specs.Staying.{AllStay}
 use Rattle.renamed_source.specs.Source.{pairs_of}
 use Rattle.from_llvm_ir.specs.Structs.{AreMade, AreNamed, HasOtherBody, IsStructMatch, StructNames, source_names}
+use Rattle.from_llvm_ir.specs.Types.{IsReadyFor}
+use Rattle.from_llvm_ir.proofs.FoundLaws.{functions_ready}
 use Rattle.from_llvm_ir.proofs.RefusedLaws.{form_held}
 use Rattle.from_llvm_ir.proofs.ModuleLaws.{imported_whole}
 use Rattle.from_llvm_ir.proofs.RenamedWalks.{begins_renamed, renamed_use}
@@ -96,6 +98,10 @@ module _ (m source : Module) (pairs : StructNames) (names : AreStructNames pairs
   seen_held form held =
       subst (All IsHeldFunction) (sym seen_functions)
       (mapped_all IsHeldFunction IsHeldFunction (renamed_function (struct_name pairs)) (renamed_held (struct_name pairs)) (data_of m).functions (form_held (data_of m) form.functions held))
+
+  -- their functions are ready where the structs were made
+  pub seen_ready : (given : List Named) (target : List Struct) → AreNamed (data_of m) given pairs → AreMade (data_of m) pairs target → All (λ (g : L.Function). IsReadyFor g target) (data_of source).functions
+  seen_ready given target named made = subst (All (λ (g : L.Function). IsReadyFor g target)) (sym seen_functions) (functions_ready (data_of m) pairs names named.all target made)
 
   matched_renamed : (old new : List Named) → GoesOn old new → (fs : List L.Function) (ns : List (List ℕ)) → Matched (λ (f : L.Function) (n : List ℕ). Gave old f.name n) fs ns
       → Matched (λ (f : L.Function) (n : List ℕ). Gave new f.name n) (map (renamed_function (struct_name pairs)) fs) ns

@@ -1,5 +1,5 @@
 -- Where no value's type is or holds one for which the dialect has none, the types of all values of a module of the form are held.
-use Rattle.std.proofs.Common.{ℕ, ◌≡◌, refl, sym, subst, List, [], ◌∷◌, ◌++◌, Option, Some, None, All, map, slice_get}
+use Rattle.std.proofs.Common.{ℕ, ◌≡◌, refl, sym, subst, List, ◌++◌, Option, Some, None, All, map, slice_get}
 use Rattle.std.proofs.lemmas.List.Elements.{All-cons, All-append, All-map, All-weaker}
 use Rattle.support.proofs.ListLaws.{all_from}
 use Rattle.kinds.specs.declared.types.OtherType.{OtherType}

@@ -1,5 +1,5 @@
 -- What the kind of a type of a source tells: it is that of the source's own, but for the name of a struct.
-use Rattle.std.proofs.Common.{ℕ, ◌≡◌, ◌∙◌, refl, sym, ap, subst, true, List, Option, Some, slice_get}
+use Rattle.std.proofs.Common.{ℕ, ◌≡◌, ◌∙◌, refl, sym, ap, subst, List, Option, Some, slice_get}
 use Rattle.std.specs.Prelude.{IsTrue}
 use Rattle.std.proofs.lemmas.Option.{same_Some}
 use Rattle.llvm_core.specs.declared.numbers.LLVMType.{LLVMType}

@@ -33,7 +33,7 @@ use Rattle.meaning.specs.Dialect.{option_type}
 use Rattle.meaning.specs.Shape.{Plan, SameRow, SameMove, SameEdge, SameBlock, SameBlocks, SameShape, IsFront}
 use Rattle.meaning.specs.Shape as Shape
 use Rattle.from_llvm_ir.specs.Order.{IsInverse}
-use Rattle.kinds.specs.Held.{is_void, own_type, IsHeld, IsHeldResult}
+use Rattle.kinds.specs.Held.{is_void, own_type, IsHeldResult}
 use Rattle.kinds.proofs.HeldLaws.{void_is}
 use Rattle.from_llvm_ir.specs.Imported.{phis_of, rest_of, front_for, first_entry}
 use Rattle.from_llvm_ir.specs.Source.{IsUsable}
@@ -41,7 +41,7 @@ use Rattle.from_llvm_ir.specs.Known.{Known, Stands, blocks_of, value_of}
 use Rattle.from_llvm_ir.specs.Converted.{IsKind, IsEdge, IsRow, IsConverted}
 use Rattle.from_llvm_ir.proofs.ListLaws.{matched_from, matched_map}
 use Rattle.from_llvm_ir.proofs.PlaceLaws.{flat_same, flat_none}
-use Rattle.from_llvm_ir.proofs.HeldLaws.{operand_held, result_held_at}
+use Rattle.from_llvm_ir.proofs.HeldLaws.{result_held_at}
 use Rattle.from_llvm_ir.proofs.OrderLaws.{ordered_at, ordered_first, placed, not_first}
 use Rattle.from_llvm_ir.proofs.PassLaws.{takes, phi_is, inst_form, operands_usable}
 use Rattle.from_llvm_ir.proofs.HoistedLaws.{rows_of, is_among, term_of}

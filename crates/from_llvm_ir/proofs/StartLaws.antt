@@ -38,7 +38,9 @@ use Rattle.from_llvm_ir.specs.declared.values.Values.{Values}
 use Rattle.from_llvm_ir.specs.Match.{IsPlaces}
 use Rattle.from_llvm_ir.specs.Order.{IsInverse}
 use Rattle.from_llvm_ir.specs.Walks.{graph_of, HasDominatedUses}
-use Rattle.from_llvm_ir.specs.Types.{GrowsTypes}
+use Rattle.kinds.specs.Structs.{Struct}
+use Rattle.dialect_types.specs.Trees.{structs_of}
+use Rattle.from_llvm_ir.specs.Types.{GrowsTypes, IsReadyFor}
 use Rattle.from_llvm_ir.specs.Values.{Targets, target_at, param_at, value_at}
 use Rattle.from_llvm_ir.specs.Imported.{FirstUses, NoUses, UsedAgain, UsedFirst, ImportedFunction, IsBuilding, IsBelow, IsGivenName, IsLabel, front_for, kept_name, phis_of}
 use Rattle.from_llvm_ir.specs.Building.{AreBare, AreFresh, AreNumbered, IsUnder, bare_func, with_blocks, with_ops, ops_of}
@@ -61,9 +63,9 @@ use Rattle.from_llvm_ir.proofs.WholeLaws.{imported}
 pub more_heads : (fr : Frame) (func : FuncOp) (c c' c1 : ContextData) (j : ℕ) (b : L.Block) (x : DialectBlock) → HasHeads fr func c j → GrowsTypes c c'
     → slice_get (blocks_of fr) j ≡ Some b → x.number ≡ length c'.blocks → IsLabel fr.given j b x.label → x.args ≡ args_for fr.source j b → x.ops ≡ []
     → ((m : ℕ) (body : BlockRef) (d : DialectModule) → IsBuilding c' m body d → IsBuilding c1 m body (with_func_block d func.0.0 x))
-    → kind_at c1.ops func.0 ≡ Some O.Func → length c1.blocks ≡ length c'.blocks + 1
+    → kind_at c1.ops func.0 ≡ Some O.Func → length c1.blocks ≡ length c'.blocks + 1 → structs_of c1.types ≡ structs_of c'.types
     → HasHeads fr func c1 (j + 1)
-more_heads fr func c c' c1 j b x h grown here number label args ops added kind longer =
+more_heads fr func c c' c1 j b x h grown here number label args ops added kind longer still =
     let same : length c'.blocks ≡ length c.blocks = ap (λ (k : ContextData). length k.blocks) grown.rest in
     record {
       heads = h.heads ++ x ∷ [];
@@ -73,6 +75,7 @@ more_heads fr func c c' c1 j b x h grown here number label args ops added kind l
       kind = kind;
       number = h.number;
       before = h.before;
+      structs = still ∙ grown.structs ∙ h.structs;
       count = (let e = length-push h.heads x in omega (arith, e, h.count));
       blocks = omega (arith, longer, same, h.blocks);
       are = λ place a y at_a at_y. elim (push_cases h.heads x y place at_y) [
@@ -92,12 +95,12 @@ more_heads fr func c c' c1 j b x h grown here number label args ops added kind l
 pub later_heads : (fr : Frame) (func : FuncOp) (c c' c1 : ContextData) (j : ℕ) (b : L.Block) (x : DialectBlock) → HasHeads fr func c (j + 1) → GrowsTypes c c'
     → slice_get (blocks_of fr) (j + 1) ≡ Some b → x.number ≡ length c'.blocks → IsGivenName fr.given b.name x.label → x.args ≡ map (λ (p : L.Placed). p.type) (phis_of b) → x.ops ≡ []
     → ((m : ℕ) (body : BlockRef) (d : DialectModule) → IsBuilding c' m body d → IsBuilding c1 m body (with_func_block d func.0.0 x))
-    → kind_at c1.ops func.0 ≡ Some O.Func → length c1.blocks ≡ length c'.blocks + 1
+    → kind_at c1.ops func.0 ≡ Some O.Func → length c1.blocks ≡ length c'.blocks + 1 → structs_of c1.types ≡ structs_of c'.types
     → HasHeads fr func c1 (j + 2)
-later_heads fr func c c' c1 j b x h grown here number label args ops added kind longer =
+later_heads fr func c c' c1 j b x h grown here number label args ops added kind longer still =
     let next : ℕ.suc j ≡ j + 1 = omega arith in
     subst (HasHeads fr func c1) (let e : j + 1 + 1 ≡ j + 2 = omega arith in e)
-    (more_heads fr func c c' c1 (j + 1) b x h grown here number (subst (λ (n : ℕ). IsLabel fr.given n b x.label) next label) (args ∙ ap (λ (n : ℕ). args_for fr.source n b) next) ops added kind longer)
+    (more_heads fr func c c' c1 (j + 1) b x h grown here number (subst (λ (n : ℕ). IsLabel fr.given n b x.label) next label) (args ∙ ap (λ (n : ℕ). args_for fr.source n b) next) ops added kind longer still)
 
 -- the number of the next block
 pub next_head : (fr : Frame) (func : FuncOp) (c c' : ContextData) (j n : ℕ) → HasHeads fr func c j → GrowsTypes c c' → n ≡ length c'.blocks → n ≡ fr.base + j
@@ -221,16 +224,16 @@ params_noted m fr f block n values number count first h = record {
 -- ---- the start
 
 -- a function that was declared has no blocks yet
-abbrev pub framed : List Named → ℕ → BlockRef → DialectModule → ℕ → List ℕ → L.Function → List ℕ → ℕ → Frame
-framed given m body d n name g order base = record {
+abbrev pub framed : List Named → ℕ → BlockRef → DialectModule → ℕ → List ℕ → L.Function → List ℕ → ℕ → List Struct → Frame
+framed given m body d n name g order base structs = record {
   given = given;
-  home = record { m = m; body = body; before = d; func = bare_func n name (kept_name g.name name) g.type };
+  home = record { m = m; body = body; before = d; func = bare_func n name (kept_name g.name name) g.type; structs = structs };
   source = g;
   order = order;
   base = base;
 }
 
-pub no_heads : (given : List Named) (name : List ℕ) (g : L.Function) (c : ContextData) (m : ℕ) (body : BlockRef) (d : DialectModule) (func : FuncOp) (order : List ℕ) → IsDeclared g name c m body d func.0.0 → kind_at c.ops func.0 ≡ Some O.Func → HasHeads (framed given m body d func.0.0 name g order (length c.blocks)) func c 0
+pub no_heads : (given : List Named) (name : List ℕ) (g : L.Function) (c : ContextData) (m : ℕ) (body : BlockRef) (d : DialectModule) (func : FuncOp) (order : List ℕ) → IsDeclared g name c m body d func.0.0 → kind_at c.ops func.0 ≡ Some O.Func → HasHeads (framed given m body d func.0.0 name g order (length c.blocks) (structs_of c.types)) func c 0
 no_heads given name g c m body d func order h kind = record {
   heads = [];
   above = h.building.held.block;
@@ -238,14 +241,15 @@ no_heads given name g c m body d func order h kind = record {
   kind = kind;
   number = refl;
   before = h.before;
+  structs = refl;
   count = refl;
   blocks = omega arith;
   are = λ place b x at_b at. absurd (none-some x at);
   bare = λ i x at. absurd (none-some x at);
 }
 
-pub is_framed : (s : Module) (f : LLVMFunction) (given : List Named) (g : L.Function) (m : ℕ) (body : BlockRef) (d : DialectModule) (n : ℕ) (name : List ℕ) (order : List ℕ) (base : ℕ) → IsSource s f g → IsPlaces (length g.blocks) order → IsIdentifier name → Gave given g.name name → IsFramed s f (framed given m body d n name g order base)
-is_framed s f given g m body d n name order base h places legal gave = record { source = h; number = number_is s f g h; order = places; func = (n, name, refl, legal, gave) }
+pub is_framed : (s : Module) (f : LLVMFunction) (given : List Named) (g : L.Function) (m : ℕ) (body : BlockRef) (d : DialectModule) (n : ℕ) (name : List ℕ) (order : List ℕ) (base : ℕ) (structs : List Struct) → IsSource s f g → IsPlaces (length g.blocks) order → IsIdentifier name → Gave given g.name name → IsReadyFor g structs → IsFramed s f (framed given m body d n name g order base structs)
+is_framed s f given g m body d n name order base structs h places legal gave ready = record { source = h; number = number_is s f g h; order = places; ready = ready; func = (n, name, refl, legal, gave) }
 
 -- ---- nothing is hoisted yet
 
@@ -279,6 +283,7 @@ not_hoisting m f fr func c values n framed is h notes = by h.heads h.building (h
             building = building;
             numbered = numbered fr (x ∷ xs) count are;
             before = below_base func.0.0 fr.base fr.home.before.functions h.before;
+            structs = h.structs;
             fresh = subst (AreFresh (length c.ops)) (sym none) (record { below = All-nil _; apart = λ i j a b at_a at_b same. absurd (none-some a at_a) });
           });
           heads = are;

@@ -12,9 +12,9 @@ use Rattle.std.proofs.lemmas.Option.{same_Some, slice_get-map, slice_get_within}
 use Rattle.std.proofs.lemmas.Slice.Eq.{bytes_eq-Decides}
 use Rattle.support.proofs.ListLaws.{all_from, slice_get-push_cases}
 use Rattle.support.proofs.OptionLaws.{part_of}
-use Rattle.kinds.specs.Types.{TypeTree, NamedType}
+use Rattle.kinds.specs.Types.{TypeTree, NamedType, types_list}
 use Rattle.kinds.specs.Held.{IsHeld}
-use Rattle.kinds.specs.Structs.{StructBody, Struct, struct_in, renamed_struct}
+use Rattle.kinds.specs.Structs.{StructBody, Struct, struct_in, renamed, renamed_struct}
 use Rattle.kinds.proofs.NestLaws.{found_last}
 use Rattle.kinds.proofs.RenamedLaws.{renamed_held}
 use Rattle.llvm_core.specs.declared.numbers.LLVMType.{LLVMType}
@@ -35,10 +35,12 @@ use Rattle.renamed_source.specs.Names.{AreStructNames, renamed_store, struct_nam
 use Rattle.renamed_source.proofs.NameLaws.{struct_name_listed, struct_name_injective}
 use Rattle.renamed_source.proofs.DataLaws.{renamed_type_at}
 use Rattle.renamed_source.proofs.SoundLaws.{renamed_sound}
+use Rattle.renamed_source.proofs.StructLaws.{renamed_names_in}
 use Rattle.from_llvm_ir.specs.Imported.{IsIn}
 use Rattle.from_llvm_ir.specs.Structs.{StructNames, source_names, identifiers, AreNamed, AreMade, AddsOnly, HasOtherBody}
-use Rattle.from_llvm_ir.proofs.TypeLaws.{listed}
-use Rattle.from_llvm_ir.proofs.FieldLaws.{field_held, same_struct}
+use Rattle.from_llvm_ir.specs.Types.{NamesAmong}
+use Rattle.from_llvm_ir.proofs.FieldLaws.{field_held, field_listed, same_struct}
+use Rattle.from_llvm_ir.proofs.FoundLaws.{held_itself}
 use Rattle.from_llvm_ir.proofs.NamingLaws.{nat_cases, struct_at, struct_named, struct_used}
 
 -- ---- structs by their names
@@ -160,6 +162,17 @@ module _ (d : ModuleData) (to : List ℕ → List ℕ) (held : List LLVMStruct) 
                 let called : to s.name ≡ to m = ap (λ (y : Struct). y.name) (sym last) ∙ found_in new (to m) t here in
                 same_Some s x (sym found ∙ ap (struct_in d.structs) (apart s.name m called) ∙ there)
 
+  -- each struct that a field of the next names is made
+  pub made_before : ((a b : List ℕ) → to a ≡ to b → a ≡ b) → AreHeldStructs d held → (k : ℕ) (first now : List Struct) → Making d to held k first now → (n : LLVMStruct) → slice_get held k ≡ Some n → (s : Struct) (b : StructBody) → slice_get d.structs n.0 ≡ Some s → s.body ≡ Some b
+      → (i : ℕ) (t : TypeTree) → slice_get (types_list b.fields) i ≡ Some t → NamesAmong now (renamed to t)
+  made_before apart are k first now h n at s b is has i t here name inside none =
+      let x = renamed_names_in to apart name t inside in
+      let y = are.behind k n s b i t x.0 at is has here (held_itself d.structs (NamedType x.0) t x.2) in
+      let made = h.made y.0 y.1 y.4.struct y.2 y.3 y.4.at in
+      let called : to y.4.struct.name ≡ name = ap to y.4.named ∙ x.1 in
+      let both : None ≡ Some (renamed_struct to y.4.struct) = sym none ∙ ap (struct_in now) (sym called) ∙ made in
+      cc
+
   -- all of them are made
   pub all_made : (k : ℕ) (pairs : StructNames) (first now : List Struct) → to ≡ struct_name pairs → AreStructNames pairs → (given : List Named) → AreNamed d given pairs → AreHeldStructs d held → length held ≤ k → Making d to held k first now
       → AreMade d pairs now
@@ -221,9 +234,21 @@ module _ (m : Module) (pairs : StructNames) (held : List LLVMStruct) (are : AreH
             let at_s = struct_at m n.0 x at in
             let user = struct_used (data_of m) held n s are there at_s in
             let tree = L.type_at (trees_of m).types t in
-            let listed_here = ap (λ (ts : List TypeTree). slice_get ts i) (sym (listed (trees_of m).types b.types)) ∙ slice_get-map (λ (u : LLVMType). L.type_at (trees_of m).types u) b.types i ∙ ap (option_map (λ (u : LLVMType). L.type_at (trees_of m).types u)) here in
+            let listed_here = field_listed (trees_of m).types b.types i t here in
             let own = field_held (data_of m) form taken n.0 s (L.fields_of (trees_of m).types b) at_s user.1 (ap (option_map (L.fields_of (trees_of m).types)) e) user.0 i tree listed_here in
             subst IsHeld (sym (renamed_type_at called m t) ∙ ap (λ (other : Module). L.type_at (trees_of other).types t) (sym is)) (renamed_held called tree own))
+
+    -- each struct that its fields name was made before
+    pub fields_ready : (source : Module) → source ≡ renamed_store called m → (k : ℕ) → slice_get held k ≡ Some n → (first now : List Struct) → Making (data_of m) called held k first now
+        → (x : StructData) → slice_get m.structs n.0 ≡ Some x → IfSome x.body (λ (b : StructFields). All (λ (t : LLVMType). NamesAmong now (L.type_at (trees_of source).types t)) b.types)
+    fields_ready source is k place first now h x at = by x.body refl
+      where
+        by : (o : Option StructFields) → x.body ≡ o → IfSome o (λ (b : StructFields). All (λ (t : LLVMType). NamesAmong now (L.type_at (trees_of source).types t)) b.types)
+        by None e = tt
+        by (Some b) e = all_from (λ (t : LLVMType). NamesAmong now (L.type_at (trees_of source).types t)) b.types (λ i t here.
+            let tree = L.type_at (trees_of m).types t in
+            let own = made_before (data_of m) called held (struct_name_injective pairs names) are k first now h n place (L.struct_of (trees_of m).types x) (L.fields_of (trees_of m).types b) (struct_at m n.0 x at) (ap (option_map (L.fields_of (trees_of m).types)) e) i tree (field_listed (trees_of m).types b.types i t here) in
+            subst (NamesAmong now) (sym (renamed_type_at called m t) ∙ ap (λ (other : Module). L.type_at (trees_of other).types t) (sym is)) own)
 
     -- its name is listed
     pub name_listed : (given : List Named) → AreNamed (data_of m) given pairs → (name : List ℕ) → option_map (λ (x : StructData). x.name) (slice_get m.structs n.0) ≡ Some name → IsIn (source_names pairs) name

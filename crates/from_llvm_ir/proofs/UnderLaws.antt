@@ -9,7 +9,7 @@ use Rattle.dialect_types.proofs.TreeLemmas.{push_cases}
 use Rattle.support.proofs.ListLaws.{slice_get-behind, slice_get-kept, slice_get-behind_cases}
 use Rattle.llvm_core.proofs.DataLemmas.{within_at}
 use Rattle.dialect_types.specs.declared.types.TypeHandle.{TypeHandle}
-use Rattle.dialect_types.specs.Trees.{type_at, type_trees}
+use Rattle.dialect_types.specs.Trees.{structs_of, type_at, type_trees}
 use Rattle.dialect_core.specs.declared.numbers.OpRef.{OpRef}
 use Rattle.dialect_core.specs.declared.numbers.BlockRef.{BlockRef}
 use Rattle.dialect_core.specs.declared.ops.Value.{Value}
@@ -180,6 +180,7 @@ added_open h base c0 c1 c2 b left now right o kind name operands successors resu
         building = subst (IsBuilding c2 h.m h.body) (op_taken h base left now right b.0 y u.number u.under.numbered u.under.before) building;
         numbered = numbered_with base left now (now.ops ++ y ∷ []) right u.under.numbered;
         before = u.under.before;
+        structs = ap (λ (c : ContextData). structs_of c.types) e2 ∙ ap (λ (c : ContextData). structs_of c.types) e1 ∙ u.under.structs;
         fresh = subst (AreFresh (length c2.ops)) (sym (ops_pushed left now right y u.bare)) fresh;
       };
       number = u.number;
@@ -207,6 +208,7 @@ typed_under h base c c' bs u g = record {
   building = typed_building c c' h.m h.body _ u.building g;
   numbered = u.numbered;
   before = u.before;
+  structs = g.structs ∙ u.structs;
   fresh = rw g.rest u.fresh;
 }
 

@@ -22,6 +22,8 @@ use Rattle.from_llvm_ir.specs.declared.conversion_err.ConversionErr.TheVariants 
 use Rattle.from_llvm_ir.specs.declared.values.Values.{Values}
 use Rattle.from_llvm_ir.specs.declared.entries.Entries.{Entries}
 use Rattle.from_llvm_ir.specs.Match.{IsPlaces}
+use Rattle.dialect_types.specs.Trees.{structs_of}
+use Rattle.from_llvm_ir.specs.Types.{IsReadyFor}
 use Rattle.from_llvm_ir.specs.Values.{Targets, target_at}
 use Rattle.from_llvm_ir.specs.Imported.{constants_in, rest_of, front_for, kept_name, IsBuilding, IsBelow, IsRefused}
 use Rattle.from_llvm_ir.specs.Building.{IsUnder, AreBare, bare_func, with_blocks, with_ops}
@@ -40,6 +42,8 @@ pub record IsFramed (m : Module) (f : LLVMFunction) (fr : Frame) : Type 0 where
   pub source : IsSource m f fr.source
   pub number : fr.source.number ≡ f.0
   pub order : IsPlaces (length fr.source.blocks) fr.order
+  -- each struct that the type of a value names is there
+  pub ready : IsReadyFor fr.source fr.home.structs
   pub func : (n : ℕ) × (name : List ℕ) × (fr.home.func ≡ bare_func n name (kept_name fr.source.name name) fr.source.type) × IsIdentifier name × Gave fr.given fr.source.name name
 
 -- the constants that an instruction uses, if it is no phi
@@ -64,6 +68,7 @@ pub record HasHeads (fr : Frame) (func : FuncOp) (c : ContextData) (j : ℕ) : T
   pub blocks : length c.blocks ≡ fr.base + j
   pub are : AreHeads fr heads
   pub bare : AreBare heads
+  pub structs : structs_of c.types ≡ fr.home.structs
 
 -- ---- what is hoisted
 

@@ -2,7 +2,8 @@
 use Rattle.std.specs.Prelude.{ℕ, ◌≡◌, ◌<◌, ◌+◌, List, [], ◌∷◌, ◌++◌, Option, Some, None, All, length, slice_get}
 use Rattle.std.specs.List.{flat_map}
 use Rattle.dialect_types.specs.declared.types.TypeHandle.{TypeHandle}
-use Rattle.dialect_types.specs.Trees.{TypeTree}
+use Rattle.kinds.specs.Structs.{Struct}
+use Rattle.dialect_types.specs.Trees.{TypeTree, structs_of}
 use Rattle.dialect_core.specs.declared.numbers.BlockRef.{BlockRef}
 use Rattle.dialect_core.specs.declared.linkage.LinkageAttr.TheVariants.{ExternalLinkage}
 use Rattle.dialect_core.specs.declared.ops.Value.{Value}
@@ -34,13 +35,15 @@ op_data kind name operands successors result = record { kind = kind; name = name
 abbrev pub new_op : ℕ → Option (List ℕ) → Kind → List Value → List Successor → Option TypeTree → DialectOp
 new_op n name kind operands successors result = record { number = n; name = name; kind = kind; operands = operands; successors = successors; result = result }
 
--- what stays while the last function grows: the module and its block for functions, the functions before, and the
--- function without its blocks
+-- what stays while the last function grows: the module and its block for functions, the functions before, the function
+-- without its blocks, and the structs
 pub record Home : Type 0 where
   pub m : ℕ
   pub body : BlockRef
   pub before : DialectModule
   pub func : Func
+  -- the structs with a name of the context
+  pub structs : List Struct
 
 abbrev pub with_blocks : Home → List DialectBlock → Func
 with_blocks h bs = record h.func { blocks = bs }
@@ -72,6 +75,7 @@ pub record IsUnder (h : Home) (base : ℕ) (c : ContextData) (bs : List DialectB
   pub numbered : AreNumbered base bs
   pub before : All (λ (f : Func). All (λ (x : DialectBlock). x.number < base) f.blocks) h.before.functions
   pub fresh : AreFresh (length c.ops) (ops_of bs)
+  pub structs : structs_of c.types ≡ h.structs
 
 -- and the block of that number stands behind `left`, and those behind it hold nothing yet
 pub record IsOpen (h : Home) (base : ℕ) (c : ContextData) (block : BlockRef) (left : List DialectBlock) (now : DialectBlock) (right : List DialectBlock) : Type 0 where

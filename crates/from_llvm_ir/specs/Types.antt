@@ -1,5 +1,9 @@
 -- Types of a context that grow.
-use Rattle.std.specs.Prelude.{◌≡◌, ◌<◌, ◌≤◌, ℕ, List, Some, length, slice_get}
+use Rattle.std.specs.Prelude.{◌≡◌, ◌<◌, ◌≤◌, ℕ, List, [], Some, None, All, length, slice_get}
+use Rattle.kinds.specs.Types.{TypeTree, NamedType}
+use Rattle.kinds.specs.Structs.{Struct, Holds, struct_in}
+use Rattle.llvm_core.specs.Data.{Function}
+use Rattle.llvm_core.specs.Form.{value_types}
 use Rattle.llvm_core.specs.declared.numbers.LLVMType.{LLVMType}
 use Rattle.llvm_core.specs.declared.types.LLVMTypeKind.TheVariants as T
 use Rattle.llvm_core.specs.Module.{Module}
@@ -25,6 +29,16 @@ pub record GrowsTypes (old new : ContextData) : Type 0 where
   pub rest : new ≡ record old { types = new.types }
   pub more : MoreTypes old.types new.types
   pub structs : structs_of new.types ≡ structs_of old.types
+
+-- ---- structs that are there
+
+-- each struct that the type itself names, not looking into their fields, is one of these
+abbrev pub NamesAmong : List Struct → TypeTree → Type 0
+NamesAmong structs t = (name : List ℕ) → Holds [] (NamedType name) t → ¬ (struct_in structs name ≡ None)
+
+-- so is each that the type of a value of the function names
+abbrev pub IsReadyFor : Function → List Struct → Type 0
+IsReadyFor g structs = All (NamesAmong structs) (value_types g)
 
 -- the type names the struct of that name
 abbrev pub IsNamedAs : Module → LLVMType → List ℕ → Type 0

@@ -13,7 +13,9 @@ ghost use Rattle.from_llvm_ir.specs.Imported.{ImportedFunction, IsBuilding};
 ghost use Rattle.from_llvm_ir.specs.Keeping.{Keeps};
 ghost use Rattle.from_llvm_ir.specs.Naming.{ForLater};
 ghost use Rattle.from_llvm_ir.specs.Order.{IsInverse, IsRpo};
+ghost use Rattle.dialect_types.specs.Trees.{structs_of};
 ghost use Rattle.from_llvm_ir.specs.Source.{IsSource, IsBlockOf};
+ghost use Rattle.from_llvm_ir.specs.Types.{IsReadyFor};
 ghost use Rattle.from_llvm_ir.specs.Known.{Frame, Notes, knows, blocks_of};
 ghost use Rattle.from_llvm_ir.specs.Body.{AreTargets, HasHeads, IsFilled, IsFramed, IsLate};
 ghost use Rattle.from_llvm_ir.specs.Importing.{IsDeclared};
@@ -211,7 +213,7 @@ fn declare<L: Ledger>(
     body: BlockRef,
     steps: &mut Steps<L>,
 ) -> Result<FuncOp, AllocError>
-    requires source { (g : Function) × IsSource source.now f g }
+    requires source { (g : Function) × IsSource source.now f g × IsReadyFor g (structs_of ctx.old.types) }
     requires module { (m : ℕ) × (d : DialectModule) × IsBuilding ctx.old m body d }
     ensures declared { IfOk result (λ n. (g : Function) → IsSource source.now f g → (m : ℕ) → (d : DialectModule) → IsBuilding ctx.old m body d → IsDeclared g name.now ctx.new m body d n.0.0) }
     ensures func { IfOk result (λ n. kind_at ctx.new.ops n.0 ≡ Some kinds.Func) }
@@ -298,7 +300,7 @@ pub fn import_function<L: Ledger>(
     body: BlockRef,
     steps: &mut Steps<L>,
 ) -> Result<FunctionBlocks, ConversionErr>
-    requires source { (g : Function) × IsSource source.now f g }
+    requires source { (g : Function) × IsSource source.now f g × IsReadyFor g (structs_of ctx.old.types) }
     requires name { (g : Function) → IsSource source.now f g → Gave names.old g.name name.now }
     requires module { (m : ℕ) × (d : DialectModule) × IsBuilding ctx.old m body d }
     ensures ok { IfOk result (λ x. (g : Function) → IsSource source.now f g → (m : ℕ) → (d : DialectModule) → IsBuilding ctx.old m body d

@@ -22,6 +22,7 @@ ghost use Rattle.from_llvm_ir.specs.Importing.{IsImportedTo};
 ghost use Rattle.from_llvm_ir.specs.Keeping.{Keeps, Leaves, AreOthersKept};
 ghost use Rattle.from_llvm_ir.specs.Naming.{ForLater, HasMet, HasMetFirst};
 ghost use Rattle.from_llvm_ir.specs.Refusals.{IsCause, IsCauseAfter, IsRefusalOfFunctions};
+ghost use Rattle.from_llvm_ir.specs.Types.{IsReadyFor};
 ghost use Rattle.from_llvm_ir.specs.Structs.{AddsOnly, AreNamed, IsStructMatch, identifiers};
 ghost use Rattle.from_llvm_ir.specs.declared.conversion_err.ConversionErr.TheVariants as refusals;
 ghost use Rattle.from_llvm_ir.specs.declared.conversion_err.Unsupported.{Unsupported};
@@ -88,6 +89,7 @@ fn import_bodies<L: Ledger>(
     requires form { All IsFormFunction (data_of source.now).functions }
     requires held { All IsHeldFunction (data_of source.now).functions }
     requires given { Matched (λ g n. Gave names.old g.name n) (data_of source.now).functions given.now }
+    requires ready { All (λ g. IsReadyFor g (structs_of ctx.old.types)) (data_of source.now).functions }
     requires building { (m : ℕ) × (name : List ℕ) × IsBuilding ctx.old m body (module_named name) }
     ensures err { IfErr result (λ e. IsRefusalOfFunctions (data_of source.now) e) }
     ensures ok { IfOk result (λ bs. (m : ℕ) → (name : List ℕ) → IsBuilding ctx.old m body (module_named name) → ForLater names.new (λ given. IsImportedTo (data_of source.now) given (length source.now.functions) ctx.new m body name bs)) }

@@ -20,7 +20,7 @@ ghost use Rattle.renamed_source.specs.Source.{pairs_of};
 ghost use Rattle.from_llvm_ir.specs.Imported.{IsIn};
 ghost use Rattle.from_llvm_ir.specs.Naming.{HasMet};
 ghost use Rattle.from_llvm_ir.specs.Structs.{AddsOnly, AreMade, AreNamed, HasOtherBody, identifiers, source_names};
-ghost use Rattle.from_llvm_ir.specs.Types.{AddsTypes, GrowsTypes};
+ghost use Rattle.from_llvm_ir.specs.Types.{AddsTypes, GrowsTypes, NamesAmong};
 
 use crate::types::import_all;
 use dialect_core::context::Context;
@@ -92,6 +92,7 @@ fn import_fields(
     requires sound { IsModule source.now }
     requires within { IfSome fields (λ b. All (λ t. t.0 < length source.now.types) b.now.types) }
     requires held { IfSome fields (λ b. All (λ t. IsHeld (L.type_at (trees_of source.now).types t)) b.now.types) }
+    requires ready { IfSome fields (λ b. All (λ t. NamesAmong (structs_of ctx.old.types) (L.type_at (trees_of source.now).types t)) b.now.types) }
     ensures grown { GrowsTypes ctx.old ctx.new }
     ensures below { IfOk result (λ o. IfSome o (λ b. AllBelow (length ctx.new.types) b.types)) }
     ensures fit { IfOk result (λ o. IfSome o (λ b. All (λ t. is_field (shape (type_at (type_trees ctx.new.types) t)) ≡ true) b.types)) }
@@ -122,6 +123,7 @@ fn make_struct(
     requires sound { IsModule source.now }
     requires source { (to : List ℕ → List ℕ) × (source.now ≡ renamed_store to «module».now) }
     requires held { (x : StructData) → slice_get «module».now.structs s.0 ≡ Some x → IfSome x.body (λ b. All (λ t. IsHeld (L.type_at (trees_of source.now).types t)) b.types) }
+    requires ready { (x : StructData) → slice_get «module».now.structs s.0 ≡ Some x → IfSome x.body (λ b. All (λ t. NamesAmong (structs_of ctx.old.types) (L.type_at (trees_of source.now).types t)) b.types) }
     ensures added { AddsTypes ctx.old ctx.new }
     ensures only { AddsOnly (structs_of ctx.old.types) (structs_of ctx.new.types) (identifier.now ∷ []) }
     ensures put { OnOk result ((x : StructData) → slice_get «module».now.structs s.0 ≡ Some x → IsStructPut (structs_of ctx.old.types) (structs_of ctx.new.types) (record { name = identifier.now; body = option_map (L.fields_of (trees_of source.now).types) x.body })) }

@@ -9,14 +9,13 @@ ghost use Rattle.llvm_core.specs.Data.{trees_of};
 ghost use Rattle.kinds.specs.Types.{params_of};
 ghost use Rattle.kinds.specs.Fitting.{is_held, is_made, is_nothing};
 ghost use Rattle.kinds.specs.Held.{own_type, IsHeld, IsHeldResult, IsShallow};
-ghost use Rattle.dialect_types.specs.Trees.{type_at, type_tree, type_trees, is_named, HasFitParts, HasPartsBelow};
+ghost use Rattle.dialect_types.specs.Trees.{type_at, type_tree, type_trees, is_named, structs_of, HasFitParts, HasPartsBelow};
 ghost use Rattle.from_llvm_ir.specs.Imported.{phis_of};
-ghost use Rattle.from_llvm_ir.specs.Types.{GrowsTypes, IsNamedAs};
+ghost use Rattle.from_llvm_ir.specs.Types.{GrowsTypes, IsNamedAs, IsReadyFor, NamesAmong};
 ghost use Rattle.from_llvm_ir.specs.Source.{IsSource, IsBlockOf, IsTypeOf};
 
 use crate::parts::is_phi;
 use dialect_core::context::Context;
-use dialect_types::identifier::Identifier;
 use dialect_types::types::{TypeHandle, TypeKind};
 use kinds::fitting::is_nothing;
 use llvm_core::code::LLVMValue;
@@ -83,28 +82,23 @@ fn plain_kind(kind: &LLVMTypeKind) -> TypeKind
     }
 }
 
-/// The struct of a name, which the context has: an import makes those that it translates before any function. One that is not
-/// there is answered as want of memory.
-fn struct_named(ctx: &Context, name: &Identifier) -> Result<TypeHandle, AllocError>
-    ensures ty { IfOk result (λ t. type_at (type_trees ctx.now.types) t ≡ L.NamedType name.now) }
-    ensures within { IfOk result (λ t. t.0 < length ctx.now.types) }
-{
-    match ctx.types().named(name.as_str()) {
-        Some(ty) => Ok(ty),
-        None => Err(AllocError),
-    }
-}
-
-/// The struct that stands for the one that a type names.
-fn made_struct(ctx: &Context, source: &Source<'_>, ty: LLVMType) -> Result<TypeHandle, AllocError>
+/// The struct of the context that stands for the one that a type names.
+fn made_struct(ctx: &Context, source: &Source<'_>, ty: LLVMType) -> TypeHandle
     requires sound { IsModule source.now }
     requires within { ty.0 < length source.now.types }
-    ensures ty { IfOk result (λ t. type_at (type_trees ctx.now.types) t ≡ L.type_at (trees_of source.now).types ty) }
-    ensures within { IfOk result (λ t. t.0 < length ctx.now.types) }
+    requires named { (name : List ℕ) × IsNamedAs source.now ty name }
+    requires ready { NamesAmong (structs_of ctx.now.types) (L.type_at (trees_of source.now).types ty) }
+    ensures ty { type_at (type_trees ctx.now.types) result ≡ L.type_at (trees_of source.now).types ty }
+    ensures within { result.0 < length ctx.now.types }
 {
+    // This tells the proof what a store of types keeps.
+    let _ = ctx.types().len();
     match source.struct_name(ty) {
-        Some(name) => struct_named(ctx, name),
-        None => Err(AllocError),
+        Some(name) => match ctx.types().named(name.as_str()) {
+            Some(made) => made,
+            None => unreachable!(),
+        },
+        None => unreachable!(),
     }
 }
 
@@ -120,6 +114,7 @@ fn import_kind(
     requires sound { IsModule source.now }
     requires within { ty.0 < length source.now.types }
     requires held { IsHeldResult (L.type_at (trees_of source.now).types ty) }
+    requires ready { NamesAmong (structs_of ctx.old.types) (L.type_at (trees_of source.now).types ty) }
     requires unnamed { (n : List ℕ) → ¬ IsNamedAs source.now ty n }
     ensures grown { GrowsTypes ctx.old ctx.new }
     ensures parts { IfOk result (λ k. HasPartsBelow (length ctx.new.types) k) }
@@ -157,12 +152,13 @@ pub fn import_plain(
     requires sound { IsModule source.now }
     requires within { ty.0 < length source.now.types }
     requires held { IsHeldResult (L.type_at (trees_of source.now).types ty) }
+    requires ready { NamesAmong (structs_of ctx.old.types) (L.type_at (trees_of source.now).types ty) }
     ensures grown { GrowsTypes ctx.old ctx.new }
     ensures ty { IfOk result (λ t. type_at (type_trees ctx.new.types) t ≡ L.type_at (trees_of source.now).types ty) }
     ensures within { IfOk result (λ t. t.0 < length ctx.new.types) }
 {
     if let LLVMTypeKind::Named(_) = source.type_kind(ty) {
-        return made_struct(ctx, source, ty);
+        return Ok(made_struct(ctx, source, ty));
     }
     let kind = import_kind(alloc, ctx, source, ty)?;
     intern(ctx, kind)
@@ -179,6 +175,7 @@ pub(crate) fn import_all(
     requires sound { IsModule source.now }
     requires within { All (λ t. t.0 < length source.now.types) types.now }
     requires held { All (λ t. IsHeld (L.type_at (trees_of source.now).types t)) types.now }
+    requires ready { All (λ t. NamesAmong (structs_of ctx.old.types) (L.type_at (trees_of source.now).types t)) types.now }
     ensures grown { GrowsTypes ctx.old ctx.new }
     ensures types { IfOk result (λ ts. map (type_at (type_trees ctx.new.types)) ts.items ≡ map (λ t. L.type_at (trees_of source.now).types t) types.now) }
     ensures within { IfOk result (λ ts. All (λ t. t.0 < length ctx.new.types) ts.items) }
@@ -197,7 +194,7 @@ pub fn import_params(
     source: &Source<'_>,
     f: LLVMFunction,
 ) -> Result<Vec<TypeHandle>, AllocError>
-    requires { (g : L.Function) × IsSource source.now f g }
+    requires { (g : L.Function) × IsSource source.now f g × IsReadyFor g (structs_of ctx.old.types) }
     ensures grown { GrowsTypes ctx.old ctx.new }
     ensures types { IfOk result (λ ts. (g : L.Function) → IsSource source.now f g → map (type_at (type_trees ctx.new.types)) ts.items ≡ params_of g.type) }
     ensures within { IfOk result (λ ts. All (λ t. t.0 < length ctx.new.types) ts.items) }
@@ -215,7 +212,7 @@ fn import_result(
     source: &Source<'_>,
     f: LLVMFunction,
 ) -> Result<TypeHandle, AllocError>
-    requires { (g : L.Function) × IsSource source.now f g }
+    requires { (g : L.Function) × IsSource source.now f g × IsReadyFor g (structs_of ctx.old.types) }
     ensures grown { GrowsTypes ctx.old ctx.new }
     ensures ty { IfOk result (λ t. (g : L.Function) → (h : IsSource source.now f g) → type_at (type_trees ctx.new.types) t ≡ h.form.result) }
     ensures within { IfOk result (λ t. t.0 < length ctx.new.types) }
@@ -233,7 +230,7 @@ pub fn import_function_type(
     source: &Source<'_>,
     f: LLVMFunction,
 ) -> Result<TypeHandle, AllocError>
-    requires { (g : L.Function) × IsSource source.now f g }
+    requires { (g : L.Function) × IsSource source.now f g × IsReadyFor g (structs_of ctx.old.types) }
     ensures grown { GrowsTypes ctx.old ctx.new }
     ensures ty { IfOk result (λ t. (g : L.Function) → IsSource source.now f g → type_at (type_trees ctx.new.types) t ≡ g.type) }
     ensures within { IfOk result (λ t. t.0 < length ctx.new.types) }
@@ -255,7 +252,7 @@ pub fn import_result_type(
     source: &Source<'_>,
     i: LLVMInstRef,
 ) -> Result<Option<TypeHandle>, AllocError>
-    requires { (t : L.TypeTree) × IsTypeOf source.now i t }
+    requires { (t : L.TypeTree) × IsTypeOf source.now i t × NamesAmong (structs_of ctx.old.types) t }
     ensures grown { GrowsTypes ctx.old ctx.new }
     ensures ty { IfOk result (λ r. (t : L.TypeTree) → IsTypeOf source.now i t → option_map (type_at (type_trees ctx.new.types)) r ≡ own_type t) }
     ensures within { IfOk result (λ r. IfSome r (λ t. t.0 < length ctx.new.types)) }
@@ -274,7 +271,7 @@ pub fn import_phi_types(
     source: &Source<'_>,
     block: LLVMBasicBlock,
 ) -> Result<Vec<TypeHandle>, AllocError>
-    requires { (f : LLVMFunction) × (g : L.Function) × (place : ℕ) × (b : L.Block) × IsSource source.now f g × IsBlockOf source.now g block place b }
+    requires { (f : LLVMFunction) × (g : L.Function) × (place : ℕ) × (b : L.Block) × IsSource source.now f g × IsBlockOf source.now g block place b × IsReadyFor g (structs_of ctx.old.types) }
     ensures grown { GrowsTypes ctx.old ctx.new }
     ensures types { IfOk result (λ ts. (f : LLVMFunction) → (g : L.Function) → (place : ℕ) → (b : L.Block) → IsSource source.now f g → IsBlockOf source.now g block place b → map (type_at (type_trees ctx.new.types)) ts.items ≡ map (λ p. p.type) (phis_of b)) }
     ensures within { IfOk result (λ ts. All (λ t. t.0 < length ctx.new.types) ts.items) }

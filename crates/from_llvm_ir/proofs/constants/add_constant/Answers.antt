@@ -5,10 +5,10 @@ use Rattle.std.proofs.lemmas.Result.{IfOk-weaker, on_ok_weaker}
 use Rattle.dialect_core.specs.declared.ops.Value.{Value}
 use Rattle.dialect_core.specs.declared.ops.Successor.{Successor}
 use Rattle.dialect_core.specs.ContextData.{ContextData, IsValueWithin, IsSuccessorWithin}
-use Rattle.dialect_types.specs.Trees.{IntegerAttr, type_at, type_trees}
+use Rattle.dialect_types.specs.Trees.{IntegerAttr, structs_of, type_at, type_trees}
 use Rattle.dialect_core.specs.Data.{ConstantOp}
 use Rattle.from_llvm_ir.specs.Building.{IsOpen, new_op, with_ops}
-use Rattle.from_llvm_ir.proofs.ConstLaws.{const_held, const_fits, const_made, short_kind}
+use Rattle.from_llvm_ir.proofs.ConstLaws.{const_among, const_held, const_fits, const_made, short_kind}
 use Rattle.from_llvm_ir.proofs.UnderLaws.{typed_open}
 use Rattle.from_llvm_ir.proofs.KeepLaws.{keeps_then, keeps_types}
 use Rattle.from_llvm_ir.proofs.constants.add_constant.Goals as goal
@@ -21,6 +21,10 @@ unreachable-requires g c =
 pub import_plain-requires-clause-held : goal.import_plain-requires-clause-held
 import_plain-requires-clause-held g c =
     const_held c.args.source.now c.args.c c.in-Int.ty c.in-Int.value c.requires.sound (c.const_kind.ensures.kind ∙ ap Some c.in-Int.is) c.requires.short
+
+pub import_plain-requires-clause-ready : goal.import_plain-requires-clause-ready
+import_plain-requires-clause-ready g c =
+    const_among (structs_of c.args.ctx.now.types) c.args.source.now c.args.c c.in-Int.ty c.in-Int.value c.requires.sound (c.const_kind.ensures.kind ∙ ap Some c.in-Int.is)
 
 pub overflow_cast-constant : goal.overflow_cast-constant
 overflow_cast-constant g c = record {

@@ -5,6 +5,7 @@ use Rattle.support.proofs.ResultLaws.{ok_both}
 use Rattle.dialect_types.specs.Trees.{type_at, type_trees}
 use Rattle.dialect_core.specs.ContextData.{ContextData, kind_at}
 use Rattle.dialect_types.specs.declared.types.TypeHandle.{TypeHandle}
+use Rattle.from_llvm_ir.specs.Types.{IsReadyFor}
 use Rattle.from_llvm_ir.proofs.StartLaws.{more_heads, first_source, next_head}
 use Rattle.from_llvm_ir.proofs.KeepLaws.{keeps_then, keeps_types, keeps_none}
 use Rattle.from_llvm_ir.proofs.functions.add_entry.Goals as goal
@@ -22,7 +23,7 @@ returns-clause-heads c =
     h c.import_params.ensures.grown b.1 is.0.0
     (ap Some c.in_ok-label.ensures)
     (ap (map (type_at (type_trees ctx.types))) c.as_slice.ensures.value ∙ c.in_ok-args.ensures.types fr.source framed.source)
-    refl is.0.1 is.1.0 is.1.1)
+    refl is.0.1 is.1.0 is.1.1 (e.kept 0 0 (omega arith)).structs)
     (ok_both r _ _ (ok_both r _ _ e.number e.building) (ok_both r _ _ e.func e.count))
 
 pub returns-in_err-args-clause-kept : goal.returns-in_err-args-clause-kept
@@ -32,7 +33,7 @@ pub returns-clause-kept : goal.returns-clause-kept
 returns-clause-kept c = λ n b later. keeps_then n b c.args.ctx.now c.import_params.new.ctx c.add_func_block.new.ctx (keeps_types n b c.args.ctx.now c.import_params.new.ctx c.import_params.ensures.grown) (c.add_func_block.ensures.kept n b later)
 
 pub import_params-requires : goal.import_params-requires
-import_params-requires c = (c.requires.0.source, c.requires.1.source)
+import_params-requires c = let r = c.requires in (r.0.source, r.1.source, subst (IsReadyFor r.0.source) (sym r.2.structs) r.1.ready)
 
 pub add_func_block-requires-clause-func : goal.add_func_block-requires-clause-func
 add_func_block-requires-clause-func c = ap (λ (x : ContextData). kind_at x.ops c.args.func.0) c.import_params.ensures.grown.rest ∙ c.requires.2.kind

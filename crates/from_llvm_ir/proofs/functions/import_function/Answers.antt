@@ -1,5 +1,6 @@
 -- What `functions::import_function` owes besides what the check finds.
 use Rattle.std.proofs.Common.{◌≡◌, ◌∙◌, refl, length, sym, ap, subst, List, ℕ, arith}
+use Rattle.dialect_types.specs.Trees.{structs_of}
 use Rattle.dialect_core.specs.declared.ops.BlockData.{BlockData}
 use Rattle.from_llvm_ir.specs.declared.conversion_err.ConversionErr.TheVariants as E
 use Rattle.dialect_types.proofs.LegalLaws.{gave_kept}
@@ -10,6 +11,7 @@ use Rattle.from_llvm_ir.specs.Walks.{graph_of}
 use Rattle.from_llvm_ir.specs.Match.{IsPlaces}
 use Rattle.from_llvm_ir.proofs.FrameLaws.{frame_length}
 use Rattle.from_llvm_ir.proofs.OrderedLaws.{rpo_places, places_counted}
+use Rattle.from_llvm_ir.proofs.FoundLaws.{still_ready}
 use Rattle.from_llvm_ir.proofs.StartLaws.{framed, is_framed, no_heads, function_whole}
 use Rattle.from_llvm_ir.proofs.UndefinedLaws.{refused}
 use Rattle.from_llvm_ir.proofs.KeepLaws.{keeps_none, keeps_then}
@@ -32,9 +34,10 @@ import_body-requires g c = λ given on.
     let name = c.args.name.now in
     let declared = c.in_ok-func.ensures.declared s.0 s.1 d.0 d.1 d.2 in
     let gave = gave_kept c.args.names.now given s.0.name name on (c.requires.name s.0 s.1) in
+    let ready = still_ready m c.args.f (structs_of c.args.ctx.now.types) (structs_of c.declare.new.ctx.types) s.0 s.0 s.1 s.2 (c.declare.ensures.kept d.0 d.1 d.2 0 0 (omega arith) (omega arith)).structs s.1 in
     let r = subst (IsRpo (graph_of s.0)) (sym c.as_slice-2.ensures.value) (c.in_ok-order.ensures.rpo s.0 s.1) in (
-      framed given d.0 c.args.body d.1 func.0.0 name s.0 order (length c.declare.new.ctx.blocks),
-      is_framed m c.args.f given s.0 d.0 c.args.body d.1 func.0.0 name order (length c.declare.new.ctx.blocks) s.1 (rpo_places s.0 order s.1.form r) declared.legal gave,
+      framed given d.0 c.args.body d.1 func.0.0 name s.0 order (length c.declare.new.ctx.blocks) (structs_of c.declare.new.ctx.types),
+      is_framed m c.args.f given s.0 d.0 c.args.body d.1 func.0.0 name order (length c.declare.new.ctx.blocks) (structs_of c.declare.new.ctx.types) s.1 (rpo_places s.0 order s.1.form r) declared.legal gave ready,
       refl,
       no_heads given name s.0 c.declare.new.ctx d.0 c.args.body d.1 func order declared c.in_ok-func.ensures.func,
       refl,
@@ -57,9 +60,11 @@ returns-in_err-import_body-clause-err g c =
     let name = c.args.name.now in
     let declared = c.in_ok-func.ensures.declared h source d.0 d.1 d.2 in
     let gave = gave_kept c.args.names.now given h.name name c.import_body.ensures.grows (c.requires.name h source) in
+    let s = c.requires.source in
+    let ready = still_ready m c.args.f (structs_of c.args.ctx.now.types) (structs_of c.declare.new.ctx.types) s.0 h s.1 s.2 (c.declare.ensures.kept d.0 d.1 d.2 0 0 (omega arith) (omega arith)).structs source in
     refused h source.form order c.in_ok-places.places (c.in_ok-order.ensures.dominated h source) r.once r.reached r.passed inverse c.in_err-import_body.field-0.0
-    (c.in_err-import_body.ensures.err (framed given d.0 c.args.body d.1 func.0.0 name h order (length c.declare.new.ctx.blocks))
-    (is_framed m c.args.f given h d.0 c.args.body d.1 func.0.0 name order (length c.declare.new.ctx.blocks) source (rpo_places h order source.form r) declared.legal gave) refl
+    (c.in_err-import_body.ensures.err (framed given d.0 c.args.body d.1 func.0.0 name h order (length c.declare.new.ctx.blocks) (structs_of c.declare.new.ctx.types))
+    (is_framed m c.args.f given h d.0 c.args.body d.1 func.0.0 name order (length c.declare.new.ctx.blocks) (structs_of c.declare.new.ctx.types) source (rpo_places h order source.form r) declared.legal gave ready) refl
     (no_heads given name h c.declare.new.ctx d.0 c.args.body d.1 func order declared c.in_ok-func.ensures.func) (goes_same given)
     c.in_ok-places.places inverse))
 
@@ -73,8 +78,10 @@ returns-clause-ok g c = λ h source n d building given on.
     let name = c.args.name.now in
     let declared = c.in_ok-func.ensures.declared h source n d building in
     let gave = gave_kept c.args.names.now given h.name name (goes_then c.args.names.now c.import_body.new.names given c.import_body.ensures.grows on) (c.requires.name h source) in
-    let fr = framed given n c.args.body d func.0.0 name h order (length c.declare.new.ctx.blocks) in
-    let is = is_framed m c.args.f given h n c.args.body d func.0.0 name order (length c.declare.new.ctx.blocks) source places declared.legal gave in
+    let s = c.requires.source in
+    let ready = still_ready m c.args.f (structs_of c.args.ctx.now.types) (structs_of c.declare.new.ctx.types) s.0 h s.1 s.2 (c.declare.ensures.kept n d building 0 0 (omega arith) (omega arith)).structs source in
+    let fr = framed given n c.args.body d func.0.0 name h order (length c.declare.new.ctx.blocks) (structs_of c.declare.new.ctx.types) in
+    let is = is_framed m c.args.f given h n c.args.body d func.0.0 name order (length c.declare.new.ctx.blocks) (structs_of c.declare.new.ctx.types) source places declared.legal gave ready in
     let filled = c.in_ok-import_body.ensures.ok fr is refl (no_heads given name h c.declare.new.ctx n c.args.body d func order declared c.in_ok-func.ensures.func) on in
     let same = c.as_slice.ensures.value ∙ sym c.as_slice-2.ensures.value in
     function_whole m c.args.f fr c.import_body.new.ctx filled.0 (length order) is (sym (frame_length m c.args.f fr order is refl)) filled.1
@@ -99,7 +106,7 @@ returns-clause-kept g c = λ m d h n b before behind.
     (c.import_body.ensures.kept n b (omega (arith, before, h.there, c.in_ok-func.ensures.number)) (omega (arith, behind, h.held.block, there)))
 
 pub checked_order-requires : goal.checked_order-requires
-checked_order-requires g c = c.requires.source
+checked_order-requires g c = (c.requires.source.0, c.requires.source.1)
 
 pub declare-requires-clause-source : goal.declare-requires-clause-source
 declare-requires-clause-source g c = c.requires.source

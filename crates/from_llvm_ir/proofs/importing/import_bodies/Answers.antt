@@ -1,7 +1,9 @@
 -- What `importing::import_bodies` owes besides what the check finds.
 use Rattle.std.proofs.Common.{ℕ, List, ◌+◌, sym, subst, arith}
-use Rattle.llvm_core.specs.Data.{data_of}
-use Rattle.llvm_core.proofs.DataLemmas.{function_count}
+use Rattle.llvm_core.specs.Data.{Function, data_of}
+use Rattle.llvm_core.proofs.DataLemmas.{function_count, within_at}
+use Rattle.dialect_types.specs.Trees.{structs_of}
+use Rattle.from_llvm_ir.specs.Types.{IsReadyFor}
 use Rattle.from_llvm_ir.specs.declared.matching.FunctionBlocks.{FunctionBlocks}
 use Rattle.from_llvm_ir.specs.Importing.{IsImportedTo}
 use Rattle.from_llvm_ir.specs.declared.conversion_err.ConversionErr.TheVariants as E
@@ -14,7 +16,12 @@ use Rattle.from_llvm_ir.proofs.KeepLaws.{keeps_none, keeps_then}
 use Rattle.from_llvm_ir.proofs.importing.import_bodies.Goals as goal
 
 pub import_function-requires-clause-source : goal.import_function-requires-clause-source
-import_function-requires-clause-source g c = source_at c.args.source.now c.loop-f.f c.functions-f-end.ensures.sound c.requires.form c.requires.held (omega (arith, c.functions-f-end.ensures.len, c.loop-f-test.true))
+import_function-requires-clause-source g c =
+    let s = source_at c.args.source.now c.loop-f.f c.functions-f-end.ensures.sound c.requires.form c.requires.held (omega (arith, c.functions-f-end.ensures.len, c.loop-f-test.true)) in
+    let b = c.requires.building in
+    let old = structs_of c.args.ctx.now.types in
+    let ready = within_at (data_of c.args.source.now).functions (λ (g : Function). IsReadyFor g old) c.requires.ready c.loop-f.f s.0 s.1.at in
+    (s.0, s.1, subst (IsReadyFor s.0) (sym (c.loop-f.invariant.kept b.0 b.1 b.2 0 0 (omega arith) (omega arith)).structs) ready)
 
 pub import_function-requires-clause-name : goal.import_function-requires-clause-name
 import_function-requires-clause-name g c = λ f h.

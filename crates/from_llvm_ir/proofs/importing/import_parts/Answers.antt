@@ -16,7 +16,7 @@ use Rattle.renamed_source.proofs.DataLaws.{renamed_data}
 use Rattle.from_llvm_ir.proofs.ForwardLaws.{passed_on}
 use Rattle.from_llvm_ir.proofs.KeepLaws.{leaves_added, leaves_then}
 use Rattle.from_llvm_ir.proofs.NameLaws.{goes_then}
-use Rattle.from_llvm_ir.proofs.PartsLaws.{named_later, names_given, other_after, seen_data, seen_form, seen_held, seen_given, seen_cause, struct_match}
+use Rattle.from_llvm_ir.proofs.PartsLaws.{named_later, names_given, other_after, seen_form, seen_held, seen_given, seen_ready, seen_cause, struct_match}
 use Rattle.from_llvm_ir.proofs.UnderLaws.{added_building}
 use Rattle.from_llvm_ir.proofs.importing.import_parts.Goals as goal
 
@@ -60,6 +60,14 @@ import_bodies-requires-clause-given g c =
     let is = c.in_ok-source.ensures ∙ ap (λ qs. renamed_store (struct_name (pairs_of qs)) c.args.«module».now) c.as_slice.ensures.value in
     seen_given c.args.«module».now c.in_ok-source.source ps names is c.function_names.new.names c.name_structs.new.names c.name_structs.ensures.grows c.as_slice-3.result.now
     (subst (λ (ns : List (List ℕ)). Matched (λ (f : L.Function) (n : List ℕ). Gave c.function_names.new.names f.name n) (data_of c.args.«module».now).functions ns) (sym c.as_slice-3.ensures.value) c.in_ok-given.ensures.given)
+
+pub import_bodies-requires-clause-ready : goal.import_bodies-requires-clause-ready
+import_bodies-requires-clause-ready g c =
+    let ps = pairs_of c.in_ok-structs.structs.items in
+    let names = names_given (data_of c.args.«module».now) c.name_structs.new.names ps c.keeps_legal.ensures c.in_ok-structs.ensures.named in
+    let is = c.in_ok-source.ensures ∙ ap (λ qs. renamed_store (struct_name (pairs_of qs)) c.args.«module».now) c.as_slice.ensures.value in
+    let made = subst (λ qs. AreMade (data_of c.args.«module».now) (pairs_of qs) (structs_of c.make_structs.new.ctx.types)) c.as_slice-2.ensures.value c.in_ok-make_structs.ensures.made in
+    seen_ready c.args.«module».now c.in_ok-source.source ps names is c.name_structs.new.names (structs_of c.make_structs.new.ctx.types) c.in_ok-structs.ensures.named made
 
 pub import_bodies-requires-clause-building : goal.import_bodies-requires-clause-building
 import_bodies-requires-clause-building g c =

@@ -11,6 +11,9 @@ use Rattle.from_llvm_ir.specs.declared.conversion_err.ConversionErr.TheVariants 
 use Rattle.from_llvm_ir.specs.Imported.{IsGivenName}
 use Rattle.from_llvm_ir.specs.Parts.{target_blocks}
 use Rattle.from_llvm_ir.specs.Edges.{IsKnownEdge}
+use Rattle.kinds.specs.Structs.{Struct}
+use Rattle.from_llvm_ir.specs.Types.{NamesAmong}
+use Rattle.from_llvm_ir.proofs.FoundLaws.{inst_ready}
 use Rattle.from_llvm_ir.specs.Building.{new_op}
 use Rattle.from_llvm_ir.specs.Converted.{IsKind}
 use Rattle.from_llvm_ir.proofs.SourceLaws.{inst_within, inst_name, inst_number, instruction_is, phi_read, type_of_inst}
@@ -47,7 +50,10 @@ returns-in_err-edges-clause-err g c =
     (c.in_err-edges.ensures.err f fr.source (targets_ready fr c.args.source.now f c.args.targets.now c.args.entries.now c.args.ctx.now c.args.values.now c.args.from c.args.block c.args.i j x b p h c.inst-inst.result.now c.inst-inst.ensures.inst other)))
 
 pub import_result_type-requires : goal.import_result_type-requires
-import_result_type-requires g c = let r = c.requires c.args.names.now (goes_same c.args.names.now) in (r.5.type, type_of_inst c.args.source.now r.1 r.0.source c.args.from r.6.place r.4 c.args.i r.3 r.5 r.6.framed.source r.6.of_block r.6.inst)
+import_result_type-requires g c =
+    let r = c.requires c.args.names.now (goes_same c.args.names.now) in
+    let ready = inst_ready r.0.source r.0.home.structs r.6.framed.ready r.6.place r.4 r.3 r.5 r.6.of_block.at r.6.inst.at in
+    (r.5.type, type_of_inst c.args.source.now r.1 r.0.source c.args.from r.6.place r.4 c.args.i r.3 r.5 r.6.framed.source r.6.of_block r.6.inst, subst (λ (ss : List Struct). NamesAmong ss r.5.type) (sym r.6.body.under.structs) ready)
 
 pub inst_name-requires : goal.inst_name-requires
 inst_name-requires g c = let r = c.requires c.args.names.now (goes_same c.args.names.now) in inst_within c.args.source.now r.4 c.args.i r.3 r.5 r.6.inst

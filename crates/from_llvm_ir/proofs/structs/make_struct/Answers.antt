@@ -8,6 +8,7 @@ use Rattle.llvm_core.specs.Data as L
 use Rattle.llvm_core.specs.Data.{trees_of}
 use Rattle.dialect_types.specs.declared.types.TypeKind.{TypeKind}
 use Rattle.dialect_types.specs.Trees.{structs_of, fields_of, type_trees}
+use Rattle.from_llvm_ir.specs.Types.{NamesAmong}
 use Rattle.from_llvm_ir.proofs.TypeLaws.{adds}
 use Rattle.from_llvm_ir.proofs.FieldLaws.{adds_then, adds_interned, body_holds, body_read}
 use Rattle.from_llvm_ir.proofs.StructLaws.{put_as, only_same, only_put}
@@ -16,6 +17,11 @@ use Rattle.from_llvm_ir.proofs.structs.make_struct.Goals as goal
 pub import_fields-requires-clause-held : goal.import_fields-requires-clause-held
 import_fields-requires-clause-held c =
     body_holds (λ (b : StructFields). All (λ (t : LLVMType). IsHeld (L.type_at (trees_of c.args.source.now).types t)) b.types) (slice_get c.args.module.now.structs c.args.s.0) c.struct_body.result c.struct_body.ensures.body c.requires.held
+
+pub import_fields-requires-clause-ready : goal.import_fields-requires-clause-ready
+import_fields-requires-clause-ready c =
+    body_holds (λ (b : StructFields). All (λ (t : LLVMType). NamesAmong (structs_of c.args.ctx.now.types) (L.type_at (trees_of c.args.source.now).types t)) b.types) (slice_get c.args.module.now.structs c.args.s.0) c.struct_body.result
+    c.struct_body.ensures.body c.requires.ready
 
 pub returns-clause-added : goal.returns-clause-added
 returns-clause-added c =

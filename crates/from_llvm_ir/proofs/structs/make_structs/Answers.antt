@@ -13,7 +13,7 @@ use Rattle.from_llvm_ir.specs.Imported.{IsIn}
 use Rattle.from_llvm_ir.specs.Structs.{source_names, identifiers, HasOtherBody}
 use Rattle.from_llvm_ir.proofs.FieldLaws.{adds_same, adds_then}
 use Rattle.from_llvm_ir.proofs.NamingLaws.{found_within, pairs_within, pair_found}
-use Rattle.from_llvm_ir.proofs.StructLaws.{identifier_listed, only_same, only_then, making_none, held_within, all_made, sound_under, fields_held, step_made, step_other, name_listed, passed_err}
+use Rattle.from_llvm_ir.proofs.StructLaws.{identifier_listed, only_same, only_then, making_none, held_within, all_made, sound_under, fields_held, fields_ready, step_made, step_other, name_listed, passed_err}
 use Rattle.from_llvm_ir.proofs.structs.make_structs.Goals as goal
 
 pub returns-in_err-names-clause-only : goal.returns-in_err-names-clause-only
@@ -48,6 +48,13 @@ make_struct-requires-clause-held c =
     let n = slice_index_or c.args.held.now c.loop-s.s-index (record { 0 = 0 }) in
     let there : IsIn c.args.held.now n = (c.loop-s.s-index, slice_get-get_or c.args.held.now c.loop-s.s-index (record { 0 = 0 }) c.loop-s-test.true) in
     fields_held c.args.module.now (pairs_of c.args.pairs.now) c.args.held.now c.requires.held c.requires.names n there c.args.source.now c.requires.source c.requires.form c.requires.taken
+
+pub make_struct-requires-clause-ready : goal.make_struct-requires-clause-ready
+make_struct-requires-clause-ready c =
+    let n = slice_index_or c.args.held.now c.loop-s.s-index (record { 0 = 0 }) in
+    let here = slice_get-get_or c.args.held.now c.loop-s.s-index (record { 0 = 0 }) c.loop-s-test.true in
+    fields_ready c.args.module.now (pairs_of c.args.pairs.now) c.args.held.now c.requires.held c.requires.names n (c.loop-s.s-index, here) c.args.source.now c.requires.source c.loop-s.s-index here (structs_of c.args.ctx.now.types)
+    (structs_of c.loop-s.ctx.types) c.loop-s.invariant.making
 
 pub returns-in_err-make_struct-in-Some-clause-other : goal.returns-in_err-make_struct-in-Some-clause-other
 returns-in_err-make_struct-in-Some-clause-other c =

@@ -1,5 +1,5 @@
 -- What `types::import_plain` and what it calls owe besides what the check finds.
-use Rattle.std.proofs.Common.{◌∙◌, ◌+◌, ◌<◌, All, Some, ap, length, map, sym, subst, take, arith}
+use Rattle.std.proofs.Common.{◌∙◌, ◌+◌, ◌<◌, All, List, Some, ap, get_or, length, map, sym, subst, take, arith}
 use Rattle.kinds.specs.Held.{IsHeld, IsHeldResult, IsShallow}
 use Rattle.kinds.specs.Types.{ArrayType, VectorType}
 use Rattle.kinds.proofs.HeldLaws.{held_result_if, held_result_shallow}
@@ -7,10 +7,13 @@ use Rattle.llvm_core.specs.declared.numbers.LLVMType.{LLVMType}
 use Rattle.llvm_core.specs.Data as L
 use Rattle.llvm_core.specs.Data.{trees_of}
 use Rattle.llvm_core.proofs.DataLemmas.{type_tree_of}
-use Rattle.dialect_types.specs.Trees.{type_trees, AllBelow}
+use Rattle.dialect_types.specs.Trees.{type_trees, structs_of, AllBelow}
 use Rattle.from_llvm_ir.proofs.TypeLaws.{Imports, imports_more, grows_none, all_below}
 use Rattle.from_llvm_ir.proofs.KindLaws.{array_part, vector_part, struct_parts, kind_held, no_parts, struct_stands, held_fit, below_reach, reach_below}
-use Rattle.from_llvm_ir.proofs.SeenLaws.{seen_unnamed, seen_plain}
+use Rattle.kinds.specs.Structs.{Struct}
+use Rattle.from_llvm_ir.specs.Types.{NamesAmong}
+use Rattle.from_llvm_ir.proofs.FoundLaws.{array_among, vector_among, fields_among}
+use Rattle.from_llvm_ir.proofs.SeenLaws.{seen_unnamed}
 use Rattle.from_llvm_ir.proofs.types.+import_plain.Goals as goal
 
 -- ---- the types of a list
@@ -18,8 +21,19 @@ use Rattle.from_llvm_ir.proofs.types.+import_plain.Goals as goal
 pub import_all-import_plain-requires : goal.import_all-import_plain-requires
 import_all-import_plain-requires t c =
     let i = c.loop-ty.ty-index in
-    let lt = c.loop-ty-test.true in
-    (omega (arith, below_reach c.args.types.now i (record { 0 = 0 }) lt), (c.requires.sound, (c.requires.within i _ lt, held_result_if _ (c.requires.held i _ lt))))
+    let lt = c.loop-ty-test.true in (
+      omega (arith, below_reach c.args.types.now i (record { 0 = 0 }) lt),
+      (
+        c.requires.sound,
+        (
+          c.requires.within i _ lt,
+          (
+            held_result_if _ (c.requires.held i _ lt),
+            subst (λ (ss : List Struct). NamesAmong ss (L.type_at (trees_of c.args.source.now).types (get_or c.args.types.now i (record { 0 = 0 })))) (sym c.loop-ty.invariant.grown.structs) (c.requires.ready i _ lt),
+          ),
+        ),
+      ),
+    )
 
 pub import_all-loop-ty-preserved : goal.import_all-loop-ty-preserved
 import_all-loop-ty-preserved t c =
@@ -32,8 +46,19 @@ import_all-loop-ty-preserved t c =
 pub import_kind-import_plain-requires : goal.import_kind-import_plain-requires
 import_kind-import_plain-requires t c =
     let r = c.requires in
-    let p = array_part c.args.source.now r.sound c.args.ty c.type_kind.result.now (seen_unnamed _ _ c.type_kind.ensures.kind r.unnamed) r.held c.in-Array.count c.in-Array.element c.in-Array.is in
-    (omega (arith, p.0), (r.sound, (omega (arith, p.0, r.within), p.1)))
+    let p = array_part c.args.source.now r.sound c.args.ty c.type_kind.result.now (seen_unnamed _ _ c.type_kind.ensures.kind r.unnamed) r.held c.in-Array.count c.in-Array.element c.in-Array.is in (
+      omega (arith, p.0),
+      (
+        r.sound,
+        (
+          omega (arith, p.0, r.within),
+          (
+            p.1,
+            array_among (structs_of c.args.ctx.now.types) c.args.source.now r.sound c.args.ty c.type_kind.result.now (seen_unnamed _ _ c.type_kind.ensures.kind r.unnamed) r.ready c.in-Array.count c.in-Array.element c.in-Array.is,
+          ),
+        ),
+      ),
+    )
 
 pub import_kind-returns-in_ok-element-in-Array-clause-tree : goal.import_kind-returns-in_ok-element-in-Array-clause-tree
 import_kind-returns-in_ok-element-in-Array-clause-tree t c =
@@ -43,8 +68,19 @@ import_kind-returns-in_ok-element-in-Array-clause-tree t c =
 pub import_kind-import_plain-requires-in-Vector : goal.import_kind-import_plain-requires-in-Vector
 import_kind-import_plain-requires-in-Vector t c =
     let r = c.requires in
-    let p = vector_part c.args.source.now r.sound c.args.ty c.type_kind.result.now (seen_unnamed _ _ c.type_kind.ensures.kind r.unnamed) r.held c.in-Vector.kind c.in-Vector.count c.in-Vector.element c.in-Vector.is in
-    (omega (arith, p.0), (r.sound, (omega (arith, p.0, r.within), p.1)))
+    let p = vector_part c.args.source.now r.sound c.args.ty c.type_kind.result.now (seen_unnamed _ _ c.type_kind.ensures.kind r.unnamed) r.held c.in-Vector.kind c.in-Vector.count c.in-Vector.element c.in-Vector.is in (
+      omega (arith, p.0),
+      (
+        r.sound,
+        (
+          omega (arith, p.0, r.within),
+          (
+            p.1,
+            vector_among (structs_of c.args.ctx.now.types) c.args.source.now r.sound c.args.ty c.type_kind.result.now (seen_unnamed _ _ c.type_kind.ensures.kind r.unnamed) r.ready c.in-Vector.kind c.in-Vector.count c.in-Vector.element c.in-Vector.is,
+          ),
+        ),
+      ),
+    )
 
 pub import_kind-returns-in_ok-element-in-Vector-clause-tree : goal.import_kind-returns-in_ok-element-in-Vector-clause-tree
 import_kind-returns-in_ok-element-in-Vector-clause-tree t c =
@@ -58,7 +94,17 @@ import_kind-import_all-requires t c =
     let p = struct_parts m r.sound c.args.ty c.type_kind.result.now (seen_unnamed _ _ c.type_kind.ensures.kind r.unnamed) r.held c.in-Literal.fields c.in-Literal.layout c.in-Literal.is in
     let below = subst (All (λ (u : LLVMType). u.0 < c.args.ty.0)) (sym c.as_slice.ensures) p.0 in (
       omega (arith, reach_below c.args.ty.0 c.as_slice.result.now below),
-      (r.sound, (λ k d lt. omega (arith, below k d lt, r.within), subst (All (λ (u : LLVMType). IsHeld (L.type_at (trees_of m).types u))) (sym c.as_slice.ensures) p.1)),
+      (
+        r.sound,
+        (
+          λ k d lt. omega (arith, below k d lt, r.within),
+          (
+            subst (All (λ (u : LLVMType). IsHeld (L.type_at (trees_of m).types u))) (sym c.as_slice.ensures) p.1,
+            subst (All (λ (u : LLVMType). NamesAmong (structs_of c.args.ctx.now.types) (L.type_at (trees_of m).types u))) (sym c.as_slice.ensures)
+                (fields_among (structs_of c.args.ctx.now.types) m r.sound c.args.ty c.type_kind.result.now (seen_unnamed _ _ c.type_kind.ensures.kind r.unnamed) r.ready c.in-Literal.fields c.in-Literal.layout c.in-Literal.is),
+          ),
+        ),
+      ),
     )
 
 pub import_kind-returns-in_ok-fields-in-Literal-clause-parts : goal.import_kind-returns-in_ok-fields-in-Literal-clause-parts

@@ -4,6 +4,9 @@ use Rattle.std.proofs.lemmas.Option.{slice_get_within}
 use Rattle.std.proofs.lemmas.Result.{IfOk-weaker}
 use Rattle.llvm_core.specs.Data.{trees_of, type_at}
 use Rattle.kinds.specs.Held.{IsHeld}
+use Rattle.dialect_types.specs.Trees.{structs_of}
+use Rattle.from_llvm_ir.specs.Types.{NamesAmong}
+use Rattle.from_llvm_ir.proofs.FoundLaws.{numbers_ready}
 use Rattle.from_llvm_ir.proofs.SourceLaws.{function_within, function_kind, params_held, params_listed, parts_within}
 use Rattle.from_llvm_ir.proofs.SeenLaws.{seen_function}
 use Rattle.from_llvm_ir.proofs.types.import_params.Goals as goal
@@ -26,6 +29,14 @@ import_all-requires-clause-within c =
 pub import_all-requires-clause-held : goal.import_all-requires-clause-held
 import_all-requires-clause-held c =
     subst (All (λ t. IsHeld (type_at (trees_of c.args.source.now).types t))) (sym c.as_slice.ensures) (params_held c.args.source.now c.args.f c.requires.0 c.requires.1 c.function_type.result c.type_kind.result.now c.in-Function.result c.in-Function.params c.in-Function.variadic c.function_type.ensures.ty (seen_function c.args.source.now.types c.function_type.result c.type_kind.result.now c.type_kind.ensures.kind c.function_type.ensures.function) c.in-Function.is)
+
+pub import_all-requires-clause-ready : goal.import_all-requires-clause-ready
+import_all-requires-clause-ready c =
+    let r = c.requires in
+    let structs = structs_of c.args.ctx.now.types in
+    let trees = (trees_of c.args.source.now).types in
+    let are = params_listed c.args.source.now c.args.f r.0 r.1 c.function_type.result c.type_kind.result.now c.in-Function.result c.in-Function.params c.in-Function.variadic c.function_type.ensures.ty (seen_function c.args.source.now.types c.function_type.result c.type_kind.result.now c.type_kind.ensures.kind c.function_type.ensures.function) c.in-Function.is in
+    subst (All (λ t. NamesAmong structs (type_at trees t))) (sym c.as_slice.ensures) (numbers_ready r.0 structs r.2 trees c.in-Function.params are)
 
 pub returns-clause-types : goal.returns-clause-types
 returns-clause-types c =

@@ -5,6 +5,10 @@ use Rattle.llvm_core.specs.Data as L
 use Rattle.kinds.specs.Held.{IsHeldResult}
 use Rattle.dialect_types.specs.declared.types.TypeHandle.{TypeHandle}
 use Rattle.dialect_core.specs.ContextData.{ContextData}
+use Rattle.kinds.specs.Structs.{Struct}
+use Rattle.dialect_types.specs.Trees.{structs_of}
+use Rattle.from_llvm_ir.specs.Types.{NamesAmong}
+use Rattle.from_llvm_ir.proofs.FoundLaws.{inst_ready}
 use Rattle.from_llvm_ir.proofs.SourceLaws.{listed_at, listed_within, insts_listed, phi_read, type_of_inst, type_read, block_within}
 use Rattle.from_llvm_ir.proofs.TypeLaws.{ImportsPhis, phis_skip, phis_more, grows_then}
 use Rattle.from_llvm_ir.proofs.types.import_phi_types.Goals as goal
@@ -17,6 +21,16 @@ import_plain-requires-clause-held c =
     let x = listed_at m r.1 c.args.block r.2 r.3 c.instructions-i-items.result.now c.loop-i.i-index (record { 0 = 0 }) r.4.sound r.5 c.instructions-i-items.ensures.insts c.loop-i-test.true in
     let t = type_of_inst m r.0 r.1 c.args.block r.2 r.3 _ c.loop-i.i-index x.0 r.4 r.5 x.1 in
     subst IsHeldResult (sym (type_read m _ x.0.type c.type_of.result t c.type_of.ensures.ty)) t.held
+
+pub import_plain-requires-clause-ready : goal.import_plain-requires-clause-ready
+import_plain-requires-clause-ready c =
+    let r = c.requires in
+    let m = c.args.source.now in
+    let x = listed_at m r.1 c.args.block r.2 r.3 c.instructions-i-items.result.now c.loop-i.i-index (record { 0 = 0 }) r.4.sound r.5 c.instructions-i-items.ensures.insts c.loop-i-test.true in
+    let t = type_of_inst m r.0 r.1 c.args.block r.2 r.3 _ c.loop-i.i-index x.0 r.4 r.5 x.1 in
+    let structs = structs_of c.args.ctx.now.types in
+    let ready = subst (NamesAmong structs) (sym (type_read m _ x.0.type c.type_of.result t c.type_of.ensures.ty)) (inst_ready r.1 structs r.6 r.2 r.3 c.loop-i.i-index x.0 r.5.at x.1.at) in
+    subst (λ (ss : List Struct). NamesAmong ss (L.type_at (L.trees_of m).types c.type_of.result)) (sym (c.loop-i.invariant r.0 r.1 r.2 r.3 r.4 r.5).grown.structs) ready
 
 pub returns-in_err-import_plain-clause-grown : goal.returns-in_err-import_plain-clause-grown
 returns-in_err-import_plain-clause-grown c = let r = c.requires in grows_then _ _ _ (c.loop-i.invariant r.0 r.1 r.2 r.3 r.4 r.5).grown c.import_plain.ensures.grown
