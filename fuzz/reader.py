@@ -43,7 +43,7 @@ TOKEN = re.compile(r"""
   | (?P<string>"[^"]*")
   | (?P<int>i[0-9]+(?![A-Za-z0-9_.]))
   | (?P<word>[A-Za-z_][A-Za-z0-9_.]*)
-  | (?P<number>-?[0-9]+)
+  | (?P<number>(?!0x)-?[0-9]+)
   | (?P<sign>[,=(){}<>\[\]*])
 """, re.X)
 
