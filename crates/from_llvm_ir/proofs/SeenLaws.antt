@@ -11,28 +11,7 @@ use Rattle.renamed_source.specs.Names.{IsSeenKind}
 -- it is the kind, where that names no struct
 pub seen_unnamed : (seen : Option LLVMTypeKind) (k : LLVMTypeKind) → IsSeenKind seen k → ((n : List ℕ) → ¬ (seen ≡ Some (T.Named n))) → seen ≡ Some k
 seen_unnamed seen (T.Named name) h un = absurd (un h.0 h.1)
-seen_unnamed seen T.Void h un = h
-seen_unnamed seen (T.Int w) h un = h
-seen_unnamed seen (T.Ptr s) h un = h
-seen_unnamed seen (T.Floating of) h un = h
-seen_unnamed seen (T.Other of) h un = h
-seen_unnamed seen (T.Array c t) h un = h
-seen_unnamed seen (T.Vector v c t) h un = h
-seen_unnamed seen (T.Literal ts l) h un = h
-seen_unnamed seen (T.Function r ps v) h un = h
-
--- and it names none, where that which is seen does not
-pub seen_plain : (seen : Option LLVMTypeKind) (k : LLVMTypeKind) → IsSeenKind seen k → ((n : List ℕ) → ¬ (k ≡ T.Named n)) → (n : List ℕ) → ¬ (seen ≡ Some (T.Named n))
-seen_plain seen (T.Named name) h other n e = other name refl
-seen_plain seen T.Void h other n e = other n (same_Some T.Void (T.Named n) (sym h ∙ e))
-seen_plain seen (T.Int w) h other n e = other n (same_Some (T.Int w) (T.Named n) (sym h ∙ e))
-seen_plain seen (T.Ptr s) h other n e = other n (same_Some (T.Ptr s) (T.Named n) (sym h ∙ e))
-seen_plain seen (T.Floating of) h other n e = other n (same_Some (T.Floating of) (T.Named n) (sym h ∙ e))
-seen_plain seen (T.Other of) h other n e = other n (same_Some (T.Other of) (T.Named n) (sym h ∙ e))
-seen_plain seen (T.Array c t) h other n e = other n (same_Some (T.Array c t) (T.Named n) (sym h ∙ e))
-seen_plain seen (T.Vector v c t) h other n e = other n (same_Some (T.Vector v c t) (T.Named n) (sym h ∙ e))
-seen_plain seen (T.Literal ts l) h other n e = other n (same_Some (T.Literal ts l) (T.Named n) (sym h ∙ e))
-seen_plain seen (T.Function r ps v) h other n e = other n (same_Some (T.Function r ps v) (T.Named n) (sym h ∙ e))
+seen_unnamed seen k h un = h
 
 named_no_function : (k : LLVMTypeKind) (n : List ℕ) → k ≡ T.Named n → ¬ IsTrue (is_function k)
 named_no_function k n is h = let e : is_function k ≡ is_function (T.Named n) = ap is_function is in let no = subst IsTrue e h in cc
@@ -44,12 +23,4 @@ seen_function types t k h f = seen_unnamed (slice_get types t.0) k h (λ n e. na
 -- it has the shape of the kind
 pub seen_shape : (seen : Option LLVMTypeKind) (k : LLVMTypeKind) → IsSeenKind seen k → (l : LLVMTypeKind) × (seen ≡ Some l) × (shape_of k ≡ shape_of l)
 seen_shape seen (T.Named name) h = (T.Named h.0, h.1, refl)
-seen_shape seen T.Void h = (T.Void, h, refl)
-seen_shape seen (T.Int w) h = (T.Int w, h, refl)
-seen_shape seen (T.Ptr s) h = (T.Ptr s, h, refl)
-seen_shape seen (T.Floating of) h = (T.Floating of, h, refl)
-seen_shape seen (T.Other of) h = (T.Other of, h, refl)
-seen_shape seen (T.Array c t) h = (T.Array c t, h, refl)
-seen_shape seen (T.Vector v c t) h = (T.Vector v c t, h, refl)
-seen_shape seen (T.Literal ts l) h = (T.Literal ts l, h, refl)
-seen_shape seen (T.Function r ps v) h = (T.Function r ps v, h, refl)
+seen_shape seen k h = (k, h, refl)
