@@ -124,34 +124,6 @@ module _ (to : List ℕ → List ℕ) where
       → let s : Struct = record { name = i; body = option_map (L.fields_of (trees_of (other m)).types) x.body } in s ≡ renamed_struct to (L.struct_of (trees_of m).types x)
   same_struct m x i e = let a = same_body m x.body in rw (e, a) refl
 
--- ---- types of a context
-
-pub adds_same : (c : ContextData) → AddsTypes c c
-adds_same c = record { rest = refl; more = record { still = λ i x at. at; longer = omega arith; kept = λ t lt. refl } }
-
-pub adds_then : (a b c : ContextData) → AddsTypes a b → AddsTypes b c → AddsTypes a c
-adds_then a b c x y = record {
-  rest = y.rest ∙ ap (λ (d : ContextData). record d { types = c.types }) x.rest;
-  more = record {
-    still = λ i k at. y.more.still i k (x.more.still i k at);
-    longer = omega (arith, x.more.longer, y.more.longer);
-    kept = λ t small. y.more.kept t (omega (arith, small, x.more.longer)) ∙ x.more.kept t small;
-  };
-}
-
-interned_longer : (old new : List TypeKind) (k : TypeKind) (n : ℕ) → Interned old new k n → length old ≤ length new
-interned_longer old new k n h = elim h.only [
-  | inl same ↦ omega (arith, ap length same)
-  | inr more ↦ omega (arith, ap length more, length-append old (k ∷ []))
-]
-
--- a type was asked for, of the types that were lent
-pub adds_interned : (a b : ContextData) (lent : List TypeKind) (k : TypeKind) (n : ℕ) → b ≡ record a { types = b.types } → lent ≡ a.types → Interned lent b.types k n → ((t : TypeHandle) → t.0 < length lent → type_at (type_trees b.types) t ≡ type_at (type_trees lent) t) → AddsTypes a b
-adds_interned a b lent k n rest same h kept = subst (λ (ts : List TypeKind). AddsTypes (record a { types = ts }) b) same (record {
-  rest = rest;
-  more = record { still = λ i x at. interned_kept lent b.types k n h i x at; longer = interned_longer lent b.types k n h; kept = kept };
-})
-
 -- ---- fields in the context
 
 held_field : (s : Shape) → is_held s ≡ true → is_field s ≡ true

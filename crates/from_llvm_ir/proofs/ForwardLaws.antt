@@ -15,8 +15,8 @@ use Rattle.llvm_core.specs.declared.code.LLVMValue.TheVariants as K
 use Rattle.llvm_core.specs.Module.{Module}
 use Rattle.llvm_core.specs.Data as L
 use Rattle.llvm_core.specs.Data.{trees_of, operand_of}
-use Rattle.from_llvm_ir.specs.declared.conversion_err.ConversionErr.{ConversionErr}
-use Rattle.from_llvm_ir.specs.declared.conversion_err.ConversionErr.TheVariants as E
+use Rattle.from_consts.specs.declared.conversion_err.ConversionErr.{ConversionErr}
+use Rattle.from_consts.specs.declared.conversion_err.ConversionErr.TheVariants as E
 use Rattle.from_llvm_ir.specs.declared.values.Values.{Values}
 use Rattle.from_llvm_ir.specs.Imported.{IsIn}
 use Rattle.from_llvm_ir.specs.Values.{value_at, IsForward, IsRefusalOf}
@@ -61,7 +61,3 @@ pub forward_flat : (m : Module) (values : Values) (f : ℕ → List L.Operand) (
 forward_flat m values f ts i t e at h =
     forward_more m values (f t.0) (flat_map f (map (λ (x : LLVMBasicBlock). x.0) ts)) e
     (λ o is_in. flat_at f (map (λ (x : LLVMBasicBlock). x.0) ts) i t.0 is_in.0 o (slice_get-map (λ (x : LLVMBasicBlock). x.0) ts i ∙ ap (option_map (λ (x : LLVMBasicBlock). x.0)) at) is_in.1) h
-
--- the error that a `?` passes on
-pub passed_on : {T : Type 0} (r : R.Result T ConversionErr) (e : ConversionErr) (Q : ConversionErr → Type 0) → IsErrAnd r (λ x. x ≡ e) → Q e → IfErr r Q
-passed_on r e Q h q = let p = err_from_is_err_and r h in let at : R.Err e ≡ r = ap (λ x. R.Err x) (sym p.2) ∙ sym p.1 in subst (λ x. IfErr x Q) at q

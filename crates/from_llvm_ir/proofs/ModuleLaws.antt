@@ -26,8 +26,8 @@ use Rattle.dialect_core.proofs.FilterLemmas.{change_get}
 use Rattle.renamed_source.specs.Source.{pairs_of}
 use Rattle.from_llvm_ir.specs.declared.importing.Imported.{Imported}
 use Rattle.from_llvm_ir.specs.declared.matching.FunctionBlocks.{FunctionBlocks}
-use Rattle.from_llvm_ir.specs.declared.conversion_err.ConversionErr.{ConversionErr}
-use Rattle.from_llvm_ir.specs.declared.conversion_err.ConversionErr.TheVariants as E
+use Rattle.from_consts.specs.declared.conversion_err.ConversionErr.{ConversionErr}
+use Rattle.from_consts.specs.declared.conversion_err.ConversionErr.TheVariants as E
 use Rattle.meaning.specs.Pairs.{Matched}
 use Rattle.meaning.proofs.MatchedLaws.{matched_at, matched_length}
 use Rattle.from_llvm_ir.specs.Imported.{FirstUses, NoUses, BeginsWith, IsOwn, AreImported, NoneImported, ThenImported, ImportedFunction, IsBuilding, IsImported, imported_data}

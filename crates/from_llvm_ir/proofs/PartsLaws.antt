@@ -32,13 +32,13 @@ use Rattle.renamed_source.specs.Names.{AreStructNames, renamed_store, struct_nam
 use Rattle.renamed_source.proofs.DataLaws.{renamed_data}
 use Rattle.renamed_source.proofs.FormLaws.{get_from, mapped_all, renamed_form, renamed_held}
 use Rattle.renamed_source.proofs.NameLaws.{struct_name_injective}
-use Rattle.from_llvm_ir.specs.declared.conversion_err.ConversionErr.{ConversionErr}
-use Rattle.from_llvm_ir.specs.declared.conversion_err.ConversionErr.TheVariants as E
+use Rattle.from_consts.specs.declared.conversion_err.ConversionErr.{ConversionErr}
+use Rattle.from_consts.specs.declared.conversion_err.ConversionErr.TheVariants as E
 use Rattle.from_llvm_ir.specs.declared.importing.Imported.{Imported}
 use Rattle.from_llvm_ir.specs.Imported.{BeginsWith, FirstUses, NoUses, IsImported, seen_by}
 use Rattle.from_llvm_ir.specs.Importing.{IsImportedTo}
 use Rattle.from_llvm_ir.specs.Naming.{HasMet, names_in}
-use Rattle.from_llvm_ir.specs.Forward.{of_struct}
+use Rattle.from_consts.specs.Forward.{of_struct}
 use Rattle.dialect_types.specs.declared.struct_err.StructErr.{StructErr}
 use Rattle.from_llvm_ir.proofs.NameLaws.{met_then}
 use Rattle.from_llvm_ir.specs.Refusals.{IsCause, IsCauseAfter, IsRefusalOfFunctions}

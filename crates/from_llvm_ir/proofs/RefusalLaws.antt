@@ -20,8 +20,8 @@ use Rattle.llvm_core.specs.Data as L
 use Rattle.llvm_core.specs.Data.{Placed, placed_in}
 use Rattle.dialect_core.specs.declared.numbers.BlockRef.{BlockRef}
 use Rattle.dialect_core.specs.ContextData.{ContextData}
-use Rattle.from_llvm_ir.specs.declared.conversion_err.ConversionErr.{ConversionErr}
-use Rattle.from_llvm_ir.specs.declared.conversion_err.ConversionErr.TheVariants as E
+use Rattle.from_consts.specs.declared.conversion_err.ConversionErr.{ConversionErr}
+use Rattle.from_consts.specs.declared.conversion_err.ConversionErr.TheVariants as E
 use Rattle.from_llvm_ir.specs.declared.entries.Entries.{Entries}
 use Rattle.from_llvm_ir.specs.declared.values.Values.{Values}
 use Rattle.from_llvm_ir.specs.Imported.{IsIn, IsEarlyUse, name_in, passed}

@@ -16,10 +16,10 @@ use Rattle.llvm_core.proofs.DataLemmas.{within_at}
 use Rattle.held_types.specs.Held.{AreHeld, HasTypeWith}
 use Rattle.held_types.specs.declared.held_structs.HeldErr.{HeldErr}
 use Rattle.held_types.specs.declared.held_structs.HeldErr.TheVariants as H
-use Rattle.from_llvm_ir.specs.declared.conversion_err.Unsupported.{Unsupported}
-use Rattle.from_llvm_ir.specs.declared.conversion_err.Unsupported.TheVariants as U
+use Rattle.from_consts.specs.declared.conversion_err.Unsupported.{Unsupported}
+use Rattle.from_consts.specs.declared.conversion_err.Unsupported.TheVariants as U
 use Rattle.from_llvm_ir.specs.Refusals.{IsCause, IsUnsupported}
-use Rattle.from_llvm_ir.specs.Forward.{of_held}
+use Rattle.from_consts.specs.Forward.{of_held}
 use Rattle.from_llvm_ir.proofs.PlaceLaws.{flat_from}
 
 -- so it is not refused for one

@@ -282,7 +282,3 @@ module _ (m : Module) (pairs : StructNames) (held : List LLVMStruct) (are : AreH
           let user = struct_used (data_of m) held n s are there at_s in
           let calls : called s.name ≡ i = ap called x.1.1 ∙ struct_name_listed pairs names place (name, i) at in
           other_body (data_of m) called held k pairs first old place i s refl (at ∙ ap (λ (m : List ℕ). Some (m, i)) (sym x.1.1)) calls user.1 h (subst (trees.HasOtherBody old) (stands_under x.0 x.1.1) (other x.0 x.1.0))
-
--- an error that is passed on has what it had
-pub passed_err : {T : Type 0} (r : R.Result T StructErr) (e : StructErr) (Q : StructErr → Type 0) → IsErrAnd r (λ x. x ≡ e) → Q e → IfErr r Q
-passed_err r e Q h q = let p = err_from_is_err_and r h in let at : R.Err e ≡ r = ap (λ x. R.Err x) (sym p.2) ∙ sym p.1 in subst (λ x. IfErr x Q) at q

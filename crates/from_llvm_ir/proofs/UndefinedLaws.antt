@@ -20,8 +20,8 @@ use Rattle.llvm_core.proofs.DataLemmas.{within_at}
 use Rattle.block_order.specs.Graph.{Reaches}
 use Rattle.block_order.specs.Order.{IsOrder, HasReachedFirst, HasPassedBefore}
 use Rattle.block_order.proofs.ListLemmas.{contains_at, found_at, same_place}
-use Rattle.from_llvm_ir.specs.declared.conversion_err.ConversionErr.{ConversionErr}
-use Rattle.from_llvm_ir.specs.declared.conversion_err.ConversionErr.TheVariants as E
+use Rattle.from_consts.specs.declared.conversion_err.ConversionErr.{ConversionErr}
+use Rattle.from_consts.specs.declared.conversion_err.ConversionErr.TheVariants as E
 use Rattle.from_llvm_ir.specs.Imported.{IsEarlyUse, first_entry, passed}
 use Rattle.from_llvm_ir.specs.Match.{IsPlaces}
 use Rattle.from_llvm_ir.specs.Order.{IsInverse}

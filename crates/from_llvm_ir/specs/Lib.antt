@@ -1,5 +1,4 @@
 -- The definitions that clauses cite.
-pub mod Forward
 pub mod Match
 pub mod Imported
 pub mod Staying

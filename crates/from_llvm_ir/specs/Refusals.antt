@@ -10,10 +10,10 @@ use Rattle.dialect_types.specs.Legalised.{Named}
 use Rattle.dialect_types.specs.declared.struct_err.StructErr.{StructErr}
 use Rattle.dialect_types.specs.declared.struct_err.StructErr.TheVariants as S
 use Rattle.held_types.specs.Held.{HasTypeWith}
-use Rattle.from_llvm_ir.specs.declared.conversion_err.ConversionErr.{ConversionErr}
-use Rattle.from_llvm_ir.specs.declared.conversion_err.ConversionErr.TheVariants as E
-use Rattle.from_llvm_ir.specs.declared.conversion_err.Unsupported.{Unsupported}
-use Rattle.from_llvm_ir.specs.declared.conversion_err.Unsupported.TheVariants as U
+use Rattle.from_consts.specs.declared.conversion_err.ConversionErr.{ConversionErr}
+use Rattle.from_consts.specs.declared.conversion_err.ConversionErr.TheVariants as E
+use Rattle.from_consts.specs.declared.conversion_err.Unsupported.{Unsupported}
+use Rattle.from_consts.specs.declared.conversion_err.Unsupported.TheVariants as U
 use Rattle.from_llvm_ir.specs.Imported.{name_in}
 use Rattle.from_llvm_ir.specs.Structs.{HasOtherStruct, HasOtherAfter}
 use Rattle.from_llvm_ir.specs.Walks.{HasValidUses, IsUndefined}

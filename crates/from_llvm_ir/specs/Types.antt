@@ -11,18 +11,7 @@ use Rattle.dialect_types.specs.declared.types.TypeHandle.{TypeHandle}
 use Rattle.dialect_types.specs.declared.types.TypeKind.{TypeKind}
 use Rattle.dialect_types.specs.Trees.{type_at, type_trees, structs_of}
 use Rattle.dialect_core.specs.ContextData.{ContextData}
-use Rattle.from_llvm_ir.specs.Staying.{AllStay}
-
--- more types, where earlier numbers keep their meaning
-pub record MoreTypes (old new : List TypeKind) : Type 0 where
-  pub still : AllStay old new
-  pub longer : length old ≤ length new
-  pub kept : (t : TypeHandle) → t.0 < length old → type_at (type_trees new) t ≡ type_at (type_trees old) t
-
--- the context has more types, structs with a name among them, and is else as it was
-pub record AddsTypes (old new : ContextData) : Type 0 where
-  pub rest : new ≡ record old { types = new.types }
-  pub more : MoreTypes old.types new.types
+pub use Rattle.from_consts.specs.Types.{MoreTypes, AddsTypes}
 
 -- it has more types, but no more structs with a name
 pub record GrowsTypes (old new : ContextData) : Type 0 where

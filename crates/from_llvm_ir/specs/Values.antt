@@ -18,8 +18,8 @@ use Rattle.dialect_core.specs.declared.ops.Value.{Value}
 use Rattle.dialect_core.specs.declared.ops.Value.TheVariants as D
 use Rattle.from_llvm_ir.specs.declared.values.Params.{Params}
 use Rattle.from_llvm_ir.specs.declared.values.Values.{Values}
-use Rattle.from_llvm_ir.specs.declared.conversion_err.ConversionErr.{ConversionErr}
-use Rattle.from_llvm_ir.specs.declared.conversion_err.ConversionErr.TheVariants as E
+use Rattle.from_consts.specs.declared.conversion_err.ConversionErr.{ConversionErr}
+use Rattle.from_consts.specs.declared.conversion_err.ConversionErr.TheVariants as E
 use Rattle.from_llvm_ir.specs.Imported.{IsIn}
 
 -- the value that stands for a parameter, where there is one

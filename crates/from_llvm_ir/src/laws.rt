@@ -4,7 +4,7 @@ ghost use Rattle.std.specs.Prelude.{ℕ, List};
 ghost use Rattle.llvm_core.specs.declared.code.LLVMValue.{LLVMValue};
 ghost use Rattle.llvm_core.specs.Data.{ModuleData};
 ghost use Rattle.held_types.specs.Held.{AreHeld};
-ghost use Rattle.from_llvm_ir.specs.declared.conversion_err.Unsupported.{Unsupported};
+ghost use Rattle.from_consts.specs.declared.conversion_err.Unsupported.{Unsupported};
 ghost use Rattle.from_llvm_ir.specs.Refusals.{HasUndefinedUse, IsUnsupported, IsValid};
 
 /// A module whose uses are valid has none that is refused.

@@ -4,7 +4,6 @@
 mod alone;
 mod building;
 mod constants;
-pub mod conversion_err;
 mod entries;
 mod far;
 mod functions;

@@ -16,7 +16,6 @@ ghost use Rattle.from_llvm_ir.specs.Known.{Frame};
 ghost use Rattle.from_llvm_ir.specs.Body.{AreTargets, IsAt, IsBegun, IsBody, IsFilled, IsFramed, IsLate};
 
 use crate::building::add_op;
-use crate::conversion_err::ConversionErr;
 use crate::entries::Entries;
 use crate::order::place_of;
 use crate::parts::{is_phi, kind_of};
@@ -29,6 +28,7 @@ use dialect_core::ops::Value;
 use dialect_core::steps::Steps;
 use dialect_types::identifier::Identifier;
 use dialect_types::legaliser::Legaliser;
+use from_consts::conversion_err::ConversionErr;
 use llvm_core::code::LLVMValue;
 use llvm_core::numbers::{LLVMBasicBlock, LLVMFunction, LLVMInstRef};
 use renamed_source::source::Source;

@@ -9,12 +9,12 @@ ghost use Rattle.from_llvm_ir.specs.Parts.{target_blocks};
 ghost use Rattle.from_llvm_ir.specs.Values.{IsForward, target_at};
 ghost use Rattle.from_llvm_ir.specs.Edges.{IsKnownEdge, IsReady};
 
-use crate::conversion_err::ConversionErr;
 use crate::entries::{Entries, edge_values};
 use crate::parts::targets_of;
 use crate::values::{Values, known_values};
 use dialect_core::numbers::BlockRef;
 use dialect_core::ops::Successor;
+use from_consts::conversion_err::ConversionErr;
 use llvm_core::code::LLVMInst;
 use llvm_core::numbers::{LLVMBasicBlock, LLVMFunction};
 use renamed_source::source::Source;

@@ -6,10 +6,10 @@ ghost use Rattle.llvm_core.specs.Parts.{is_phi, operands};
 ghost use Rattle.llvm_core.specs.Data.{trees_of, operand_of};
 ghost use Rattle.from_llvm_ir.specs.Values.{value_at, param_at, AreNoted, IsMade, IsNoted, IsForward, IsRefusalOf, IsSettled};
 
-use crate::conversion_err::ConversionErr;
 use crate::parts::operands_of;
 use dialect_core::numbers::BlockRef;
 use dialect_core::ops::Value;
+use from_consts::conversion_err::ConversionErr;
 use llvm_core::code::{LLVMInst, LLVMValue};
 use llvm_core::numbers::{LLVMConst, LLVMFunction, LLVMInstRef};
 use renamed_source::source::Source;

@@ -184,7 +184,7 @@ module _ (m : Module) where
       by None at e = cc
       by (Some x) at e = (x, at, same_Some (struct_of trees x) st e)
 
-  body_from : (x : StructData) (b : StructBody) → option_map (fields_of trees) x.body ≡ Some b → (f : StructFields) × (x.body ≡ Some f) × (fields_of trees f ≡ b)
+  pub body_from : (x : StructData) (b : StructBody) → option_map (fields_of trees) x.body ≡ Some b → (f : StructFields) × (x.body ≡ Some f) × (fields_of trees f ≡ b)
   body_from x b e = by x.body refl e
     where
       by : (o : Option StructFields) → x.body ≡ o → option_map (fields_of trees) o ≡ Some b → (f : StructFields) × (x.body ≡ Some f) × (fields_of trees f ≡ b)
@@ -229,7 +229,7 @@ module _ (m : Module) where
         ap (each_field (nests (structs_of m) left)) same ∙ sym (ap (λ o. option_map_or (each_field (nests (structs_of m) left)) o false) is.first) ∙ h
 
   module _ (s : LLVMStruct) (b : StructFields) (e : option_map (λ (x : StructData). x.body) (slice_get m.structs s.0) ≡ Some (Some b)) where
-    body_at : (x : StructData) × (slice_get m.structs s.0 ≡ Some x) × (x.body ≡ Some b)
+    pub body_at : (x : StructData) × (slice_get m.structs s.0 ≡ Some x) × (x.body ≡ Some b)
     body_at = by (slice_get m.structs s.0) refl e
       where
         by : (o : Option StructData) → slice_get m.structs s.0 ≡ o → option_map (λ (x : StructData). x.body) o ≡ Some (Some b) → (x : StructData) × (slice_get m.structs s.0 ≡ Some x) × (x.body ≡ Some b)

@@ -44,7 +44,7 @@ if_err_as (R.Ok x) P Q h p = tt
 if_err_as (R.Err e) P Q h p = h e p
 
 -- the error that a `?` passes on
-pub passed_on : {T : Type 0} (r : R.Result T HeldErr) (e : HeldErr) (Q : HeldErr → Type 0) → IsErrAnd r (λ x. x ≡ e) → Q e → IfErr r Q
+pub passed_on : {T E : Type 0} (r : R.Result T E) (e : E) (Q : E → Type 0) → IsErrAnd r (λ x. x ≡ e) → Q e → IfErr r Q
 passed_on r e Q h q = let p = err_from_is_err_and r h in let at : R.Err e ≡ r = ap (λ x. R.Err x) (sym p.2) ∙ sym p.1 in subst (λ x. IfErr x Q) at q
 
 pub cause_as : (W V : TypeTree → Type 0) → IsWithin W V → (e : HeldErr) → IsCause W e → IsCause V e

@@ -2,5 +2,5 @@
 #![tactic(auto)]
 
 pub mod held_structs;
-mod table;
+pub mod table;
 mod walk;

@@ -15,7 +15,7 @@ use dialect_core::context::Context;
 use dialect_core::numbers::ModuleOp;
 use dialect_types::identifier::Identifier;
 use dialect_types::struct_err::StructErr;
-use from_llvm_ir::conversion_err::ConversionErr;
+use from_consts::conversion_err::ConversionErr;
 use from_llvm_ir::importing::{Imported, convert_module as import};
 use ll_text::read::read_ll;
 use llvm_core::module::LLVMModule;

@@ -8,7 +8,7 @@ use Rattle.ll_text.proofs.ReadLaws.{one_meant}
 use Rattle.llvm_core.specs.Data.{ModuleData, data_of}
 use Rattle.llvm_core.specs.Form.{IsForm}
 use Rattle.held_types.specs.Held.{AreHeld}
-use Rattle.from_llvm_ir.specs.declared.conversion_err.ConversionErr.TheVariants as C
+use Rattle.from_consts.specs.declared.conversion_err.ConversionErr.TheVariants as C
 use Rattle.from_llvm_ir.specs.Refusals.{IsValid}
 use Rattle.from_llvm_ir.proofs.UndefinedLaws.{no_undefined_use}
 use Rattle.from_llvm_ir.proofs.RefusedLaws.{held_unsupported}

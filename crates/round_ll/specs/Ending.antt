@@ -2,8 +2,8 @@
 use Rattle.std.specs.Prelude.{ℕ, List, [], ◌++◌, codes}
 use Rattle.kinds.specs.declared.types.OtherType.{OtherType}
 use Rattle.kinds.specs.declared.types.OtherType.TheVariants as O
-use Rattle.from_llvm_ir.specs.declared.conversion_err.ConversionErr.TheVariants as C
-use Rattle.from_llvm_ir.specs.declared.conversion_err.Unsupported.TheVariants as U
+use Rattle.from_consts.specs.declared.conversion_err.ConversionErr.TheVariants as C
+use Rattle.from_consts.specs.declared.conversion_err.Unsupported.TheVariants as U
 use Rattle.to_llvm_ir.specs.declared.to_llvm_err.ToLLVMErr.TheVariants as X
 use Rattle.transfer.specs.declared.transfer_err.TransferErr.{TransferErr}
 use Rattle.transfer.specs.declared.transfer_err.TransferErr.TheVariants as T

@@ -3,7 +3,7 @@
 ghost use Rattle.std.specs.Prelude.{◌≡◌};
 ghost use Rattle.round_ll.specs.Ending.{head_of, name_of, other_head, refusal_head, refusal_name, status_of};
 
-use from_llvm_ir::conversion_err::{ConversionErr, Unsupported};
+use from_consts::conversion_err::{ConversionErr, Unsupported};
 use kinds::types::OtherType;
 use ll_text::read_err::ReadErr;
 use thiserror::Error;

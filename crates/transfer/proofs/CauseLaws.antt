@@ -15,8 +15,8 @@ use Rattle.support.proofs.ListLaws.{all_from}
 use Rattle.from_llvm_ir.specs.Imported.{IsIn}
 use Rattle.from_llvm_ir.specs.Structs.{AddsOnly}
 use Rattle.from_llvm_ir.specs.Refusals as Import
-use Rattle.from_llvm_ir.specs.declared.conversion_err.ConversionErr.{ConversionErr}
-use Rattle.from_llvm_ir.specs.declared.conversion_err.ConversionErr.TheVariants as C
+use Rattle.from_consts.specs.declared.conversion_err.ConversionErr.{ConversionErr}
+use Rattle.from_consts.specs.declared.conversion_err.ConversionErr.TheVariants as C
 use Rattle.to_llvm_ir.specs.Exported as X
 use Rattle.to_llvm_ir.specs.Exported.{HasBlockAt, HasEdge, IsEarlyUse, LeadsOutside, IsMismatched, HasOtherEdge}
 use Rattle.to_llvm_ir.specs.declared.to_llvm_err.ToLLVMErr.{ToLLVMErr}

@@ -21,8 +21,8 @@ use Rattle.from_llvm_ir.specs.Imported.{AreImported, BeginsWith, IsIn}
 use Rattle.from_llvm_ir.specs.Structs.{IsStructMatch, identifiers}
 use Rattle.from_llvm_ir.specs.Refusals as Import
 use Rattle.to_llvm_ir.specs.Exported.{ExportedFunction}
-use Rattle.from_llvm_ir.specs.declared.conversion_err.ConversionErr.{ConversionErr}
-use Rattle.from_llvm_ir.specs.declared.conversion_err.ConversionErr.TheVariants as C
+use Rattle.from_consts.specs.declared.conversion_err.ConversionErr.{ConversionErr}
+use Rattle.from_consts.specs.declared.conversion_err.ConversionErr.TheVariants as C
 use Rattle.to_llvm_ir.specs.declared.to_llvm_err.ToLLVMErr.{ToLLVMErr}
 use Rattle.to_llvm_ir.specs.declared.to_llvm_err.ToLLVMErr.TheVariants as X
 use Rattle.transfer.specs.declared.transferred.Transferred.{Transferred}

@@ -3,7 +3,7 @@
 ghost use Rattle.std.specs.Prelude.{◌≡◌};
 ghost use Rattle.transfer.specs.Same.{of_import, of_export};
 
-use from_llvm_ir::conversion_err::ConversionErr;
+use from_consts::conversion_err::ConversionErr;
 use thiserror::Error;
 use to_llvm_ir::to_llvm_err::ToLLVMErr;
 

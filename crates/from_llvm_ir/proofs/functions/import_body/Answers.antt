@@ -2,8 +2,8 @@
 use Rattle.std.proofs.Common.{refl, sym, subst, arith}
 use Rattle.std.proofs.lemmas.Result.{on_ok_weaker, IfErr-weaker}
 use Rattle.dialect_types.specs.Legalised.{GoesOn}
-use Rattle.from_llvm_ir.specs.declared.conversion_err.ConversionErr.TheVariants as E
-use Rattle.from_llvm_ir.proofs.ForwardLaws.{passed_on}
+use Rattle.from_consts.specs.declared.conversion_err.ConversionErr.TheVariants as E
+use Rattle.held_types.proofs.WalkLaws.{passed_on}
 use Rattle.from_llvm_ir.proofs.NameLaws.{goes_same, goes_then}
 use Rattle.from_llvm_ir.proofs.SourceLaws.{function_within}
 use Rattle.from_llvm_ir.proofs.StartLaws.{blocks_there, first_target, started, not_filled}

@@ -2,9 +2,9 @@
 use Rattle.std.proofs.Common.{◌≡◌, ◌∙◌, refl, length, sym, ap, subst, List, ℕ, arith}
 use Rattle.dialect_types.specs.Trees.{structs_of}
 use Rattle.dialect_core.specs.declared.ops.BlockData.{BlockData}
-use Rattle.from_llvm_ir.specs.declared.conversion_err.ConversionErr.TheVariants as E
+use Rattle.from_consts.specs.declared.conversion_err.ConversionErr.TheVariants as E
 use Rattle.dialect_types.proofs.LegalLaws.{gave_kept}
-use Rattle.from_llvm_ir.proofs.ForwardLaws.{passed_on}
+use Rattle.held_types.proofs.WalkLaws.{passed_on}
 use Rattle.from_llvm_ir.proofs.NameLaws.{goes_same, goes_then}
 use Rattle.from_llvm_ir.specs.Order.{IsInverse, IsRpo}
 use Rattle.from_llvm_ir.specs.Walks.{graph_of}

@@ -1,7 +1,7 @@
 -- What `functions::walked_order` owes besides what the check finds.
 use Rattle.std.proofs.Common.{◌∙◌, refl, sym, subst}
 use Rattle.block_order.specs.Graph.{IsGraph}
-use Rattle.from_llvm_ir.proofs.ForwardLaws.{passed_on}
+use Rattle.held_types.proofs.WalkLaws.{passed_on}
 use Rattle.from_llvm_ir.proofs.GraphLaws.{is_graph}
 use Rattle.from_llvm_ir.proofs.OneLaws.{block_alone}
 use Rattle.from_llvm_ir.proofs.OrderedLaws.{is_rpo}

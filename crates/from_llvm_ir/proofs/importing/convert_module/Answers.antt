@@ -11,10 +11,10 @@ use Rattle.from_llvm_ir.specs.Match.{match_of}
 use Rattle.from_llvm_ir.specs.Imported.{IsImported, imported_data, seen_by}
 use Rattle.renamed_source.specs.Source.{pairs_of}
 use Rattle.dialect_types.specs.Trees.{structs_of}
-use Rattle.from_llvm_ir.specs.Forward.{of_held}
+use Rattle.from_consts.specs.Forward.{of_held}
 use Rattle.from_llvm_ir.specs.Refusals.{IsCause}
 use Rattle.held_types.specs.Held.{AreHeld}
-use Rattle.from_llvm_ir.proofs.ForwardLaws.{passed_on}
+use Rattle.held_types.proofs.WalkLaws.{passed_on}
 use Rattle.from_llvm_ir.proofs.KeepLaws.{keeps_none, others_kept}
 use Rattle.from_llvm_ir.proofs.RefusedLaws.{held_cause, held_unsupported}
 use Rattle.from_llvm_ir.proofs.SameLaws.{same_imported}

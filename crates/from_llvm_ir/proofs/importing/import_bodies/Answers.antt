@@ -6,11 +6,11 @@ use Rattle.dialect_types.specs.Trees.{structs_of}
 use Rattle.from_llvm_ir.specs.Types.{IsReadyFor}
 use Rattle.from_llvm_ir.specs.declared.matching.FunctionBlocks.{FunctionBlocks}
 use Rattle.from_llvm_ir.specs.Importing.{IsImportedTo}
-use Rattle.from_llvm_ir.specs.declared.conversion_err.ConversionErr.TheVariants as E
+use Rattle.from_consts.specs.declared.conversion_err.ConversionErr.TheVariants as E
 use Rattle.dialect_types.proofs.LegalLaws.{gave_kept}
 use Rattle.from_llvm_ir.proofs.NameLaws.{goes_same, goes_then}
 use Rattle.from_llvm_ir.proofs.SourceLaws.{source_at}
-use Rattle.from_llvm_ir.proofs.ForwardLaws.{passed_on}
+use Rattle.held_types.proofs.WalkLaws.{passed_on}
 use Rattle.from_llvm_ir.proofs.ModuleLaws.{imported_none, imported_more, function_cause, name_given, names_long}
 use Rattle.from_llvm_ir.proofs.KeepLaws.{keeps_none, keeps_then}
 use Rattle.from_llvm_ir.proofs.importing.import_bodies.Goals as goal

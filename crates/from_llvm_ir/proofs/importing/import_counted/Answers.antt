@@ -1,9 +1,9 @@
 -- What `importing::import_counted` owes besides what the check finds.
 use Rattle.std.proofs.Common.{ap, subst, arith}
 use Rattle.dialect_types.specs.Trees.{structs_of}
-use Rattle.from_llvm_ir.specs.declared.conversion_err.ConversionErr.TheVariants as E
+use Rattle.from_consts.specs.declared.conversion_err.ConversionErr.TheVariants as E
 use Rattle.dialect_types.proofs.LegalLaws.{gave_kept}
-use Rattle.from_llvm_ir.proofs.ForwardLaws.{passed_on}
+use Rattle.held_types.proofs.WalkLaws.{passed_on}
 use Rattle.from_llvm_ir.proofs.NameLaws.{goes_same}
 use Rattle.from_llvm_ir.proofs.OwnLaws.{held_types}
 use Rattle.from_llvm_ir.proofs.ModuleLaws.{begun_with}

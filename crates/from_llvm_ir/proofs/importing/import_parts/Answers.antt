@@ -7,13 +7,13 @@ use Rattle.renamed_source.specs.Names.{AreStructNames, struct_name, renamed_stor
 use Rattle.renamed_source.specs.Source.{pairs_of}
 use Rattle.from_llvm_ir.specs.Importing.{IsImportedTo}
 use Rattle.from_llvm_ir.specs.Structs.{AddsOnly, AreNamed, AreMade, HasOtherBody, identifiers}
-use Rattle.from_llvm_ir.specs.Forward.{of_struct}
+use Rattle.from_consts.specs.Forward.{of_struct}
 use Rattle.dialect_types.specs.declared.struct_err.StructErr.TheVariants as S
 use Rattle.meaning.specs.Pairs.{Matched}
 use Rattle.dialect_types.specs.Legalised.{Gave}
 use Rattle.dialect_types.specs.Trees.{structs_of}
 use Rattle.renamed_source.proofs.DataLaws.{renamed_data}
-use Rattle.from_llvm_ir.proofs.ForwardLaws.{passed_on}
+use Rattle.held_types.proofs.WalkLaws.{passed_on}
 use Rattle.from_llvm_ir.proofs.KeepLaws.{leaves_added, leaves_then}
 use Rattle.from_llvm_ir.proofs.NameLaws.{goes_then}
 use Rattle.from_llvm_ir.proofs.PartsLaws.{named_later, names_given, other_after, seen_form, seen_held, seen_given, seen_ready, seen_cause, struct_match}

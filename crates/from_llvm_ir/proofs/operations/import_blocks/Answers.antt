@@ -5,7 +5,7 @@ use Rattle.std.specs.Prelude.{IsSome}
 use Rattle.dialect_core.specs.declared.numbers.BlockRef.{BlockRef}
 use Rattle.dialect_types.specs.Legalised.{GoesOn}
 use Rattle.from_llvm_ir.specs.Body.{IsFilled}
-use Rattle.from_llvm_ir.proofs.ForwardLaws.{passed_on}
+use Rattle.held_types.proofs.WalkLaws.{passed_on}
 use Rattle.from_llvm_ir.proofs.NameLaws.{goes_same, goes_then}
 use Rattle.from_llvm_ir.proofs.SourceLaws.{function_within}
 use Rattle.from_llvm_ir.proofs.FrameLaws.{named_at}

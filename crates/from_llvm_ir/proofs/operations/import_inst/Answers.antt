@@ -1,9 +1,9 @@
 -- What `operations::import_inst` owes besides what the check finds.
 use Rattle.std.proofs.Common.{◌∙◌, sym}
 use Rattle.std.proofs.lemmas.Result.{on_ok_weaker, IfErr-weaker}
-use Rattle.from_llvm_ir.specs.declared.conversion_err.ConversionErr.TheVariants as E
+use Rattle.from_consts.specs.declared.conversion_err.ConversionErr.TheVariants as E
 use Rattle.from_llvm_ir.proofs.SourceLaws.{inst_within, phi_read}
-use Rattle.from_llvm_ir.proofs.ForwardLaws.{passed_on}
+use Rattle.held_types.proofs.WalkLaws.{passed_on}
 use Rattle.from_llvm_ir.proofs.NameLaws.{goes_same}
 use Rattle.from_llvm_ir.proofs.BodyLaws.{phi_taken}
 use Rattle.from_llvm_ir.proofs.KeepLaws.{keeps_none}

@@ -1,7 +1,7 @@
 -- What `operations::import_insts` owes besides what the check finds.
 use Rattle.std.proofs.Common.{sym, subst, arith}
 use Rattle.dialect_types.specs.Legalised.{GoesOn}
-use Rattle.from_llvm_ir.proofs.ForwardLaws.{passed_on}
+use Rattle.held_types.proofs.WalkLaws.{passed_on}
 use Rattle.from_llvm_ir.proofs.NameLaws.{goes_same, goes_then}
 use Rattle.from_llvm_ir.proofs.SourceLaws.{listed_at, insts_listed, block_within}
 use Rattle.from_llvm_ir.proofs.BodyLaws.{begun, filled, next_at}

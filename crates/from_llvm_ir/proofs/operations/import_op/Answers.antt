@@ -7,7 +7,7 @@ use Rattle.meaning.specs.Pairs.{Matched}
 use Rattle.dialect_types.specs.Trees.{type_at, type_trees}
 use Rattle.dialect_core.specs.declared.ops.Successor.{Successor}
 use Rattle.dialect_core.specs.ContextData.{ContextData, IsValueWithin, IsSuccessorWithin}
-use Rattle.from_llvm_ir.specs.declared.conversion_err.ConversionErr.TheVariants as E
+use Rattle.from_consts.specs.declared.conversion_err.ConversionErr.TheVariants as E
 use Rattle.from_llvm_ir.specs.Imported.{IsGivenName}
 use Rattle.from_llvm_ir.specs.Parts.{target_blocks}
 use Rattle.from_llvm_ir.specs.Edges.{IsKnownEdge}
@@ -19,7 +19,7 @@ use Rattle.from_llvm_ir.specs.Converted.{IsKind}
 use Rattle.from_llvm_ir.proofs.SourceLaws.{inst_within, inst_name, inst_number, instruction_is, phi_read, type_of_inst}
 use Rattle.from_llvm_ir.proofs.NameLaws.{given_kept, goes_same}
 use Rattle.from_llvm_ir.proofs.UnderLaws.{typed_open}
-use Rattle.from_llvm_ir.proofs.ForwardLaws.{passed_on}
+use Rattle.held_types.proofs.WalkLaws.{passed_on}
 use Rattle.from_llvm_ir.proofs.ReadyLaws.{body_open, edges_stand, edges_within, in_operands, in_targets, operands_settled, operands_stand, targets_ready, values_within}
 use Rattle.from_llvm_ir.proofs.RefusalLaws.{late}
 use Rattle.from_llvm_ir.proofs.OperationLaws.{kind_found, kind_types, operation_more, plain_kind}

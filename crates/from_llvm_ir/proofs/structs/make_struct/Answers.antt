@@ -10,7 +10,8 @@ use Rattle.dialect_types.specs.declared.types.TypeKind.{TypeKind}
 use Rattle.dialect_types.specs.Trees.{structs_of, fields_of, type_trees}
 use Rattle.from_llvm_ir.specs.Types.{NamesAmong}
 use Rattle.from_llvm_ir.proofs.TypeLaws.{adds}
-use Rattle.from_llvm_ir.proofs.FieldLaws.{adds_then, adds_interned, body_holds, body_read}
+use Rattle.from_consts.proofs.GivesLaws.{adds_then, adds_interned}
+use Rattle.from_llvm_ir.proofs.FieldLaws.{body_holds, body_read}
 use Rattle.from_llvm_ir.proofs.StructLaws.{put_as, only_same, only_put}
 use Rattle.from_llvm_ir.proofs.structs.make_struct.Goals as goal
 

@@ -11,9 +11,10 @@ use Rattle.renamed_source.specs.Source.{pairs_of}
 use Rattle.renamed_source.proofs.SourceLaws.{unfound}
 use Rattle.from_llvm_ir.specs.Imported.{IsIn}
 use Rattle.from_llvm_ir.specs.Structs.{source_names, identifiers, HasOtherBody}
-use Rattle.from_llvm_ir.proofs.FieldLaws.{adds_same, adds_then}
+use Rattle.from_consts.proofs.GivesLaws.{adds_none, adds_then}
 use Rattle.from_llvm_ir.proofs.NamingLaws.{found_within, pairs_within, pair_found}
-use Rattle.from_llvm_ir.proofs.StructLaws.{identifier_listed, only_same, only_then, making_none, held_within, all_made, sound_under, fields_held, fields_ready, step_made, step_other, name_listed, passed_err}
+use Rattle.held_types.proofs.WalkLaws.{passed_on}
+use Rattle.from_llvm_ir.proofs.StructLaws.{identifier_listed, only_same, only_then, making_none, held_within, all_made, sound_under, fields_held, fields_ready, step_made, step_other, name_listed}
 use Rattle.from_llvm_ir.proofs.structs.make_structs.Goals as goal
 
 pub returns-in_err-names-clause-only : goal.returns-in_err-names-clause-only
@@ -23,7 +24,7 @@ pub loop-s-init : goal.loop-s-init
 loop-s-init c =
     let first = structs_of c.args.ctx.now.types in
     record {
-      added = adds_same c.args.ctx.now;
+      added = adds_none c.args.ctx.now;
       only = only_same first first (identifiers (pairs_of c.args.pairs.now)) refl;
       making = making_none (data_of c.args.module.now) (struct_name (pairs_of c.args.pairs.now)) c.args.held.now first;
     }
@@ -70,7 +71,7 @@ returns-in_err-make_struct-in-Some-clause-other c =
     let within = found_within (source_names pairs) name c.in-Some.place found in
     let at_p = pair_found ps c.in-Some.place p name (slice_get-get_or ps c.in-Some.place c.index-pairs-place.result (pairs_within ps c.in-Some.place within)) found in
     let first = structs_of c.args.ctx.now.types in
-    passed_err c.from_residual-in_err-make_struct-in-Some.result c.in_err-make_struct-in-Some.field-0.0 (λ e. (i : List ℕ) → e ≡ reasons.DifferentBody i → HasOtherBody first (data_of m) pairs i) c.from_residual-in_err-make_struct-in-Some.ensures.1 (λ i e.
+    passed_on c.from_residual-in_err-make_struct-in-Some.result c.in_err-make_struct-in-Some.field-0.0 (λ e. (i : List ℕ) → e ≡ reasons.DifferentBody i → HasOtherBody first (data_of m) pairs i) c.from_residual-in_err-make_struct-in-Some.ensures.1 (λ i e.
     let other = c.in_err-make_struct-in-Some.ensures.other i e in
     subst (HasOtherBody first (data_of m) pairs) (sym other.0)
     (step_other m pairs c.args.held.now c.requires.held c.requires.names n there c.args.source.now c.requires.source k first (structs_of c.loop-s.ctx.types) name p.1 c.in-Some.place c.struct_name.ensures at_p c.loop-s.invariant.making other.1))

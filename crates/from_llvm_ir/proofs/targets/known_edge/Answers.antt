@@ -9,7 +9,7 @@ use Rattle.llvm_core.specs.Data.{trees_of, operand_of}
 use Rattle.llvm_core.proofs.DataLemmas.{within_at}
 use Rattle.from_llvm_ir.specs.Source.{IsUsed}
 use Rattle.from_llvm_ir.specs.Values.{AreNoted, IsForward, IsSettled}
-use Rattle.from_llvm_ir.proofs.ForwardLaws.{passed_on}
+use Rattle.held_types.proofs.WalkLaws.{passed_on}
 use Rattle.from_llvm_ir.proofs.targets.known_edge.Goals as goal
 
 pub known_values-requires : goal.known_values-requires

@@ -7,7 +7,8 @@ use Rattle.meaning.specs.Pairs.{Matched}
 use Rattle.from_llvm_ir.specs.Imported.{passed}
 use Rattle.from_llvm_ir.specs.Edges.{IsKnownEdge}
 use Rattle.from_llvm_ir.proofs.ListLaws.{matched_next}
-use Rattle.from_llvm_ir.proofs.ForwardLaws.{passed_on, forward_flat}
+use Rattle.held_types.proofs.WalkLaws.{passed_on}
+use Rattle.from_llvm_ir.proofs.ForwardLaws.{forward_flat}
 use Rattle.from_llvm_ir.proofs.targets.known_edges.Goals as goal
 
 pub known_edge-requires : goal.known_edge-requires

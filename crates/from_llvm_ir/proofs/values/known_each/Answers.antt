@@ -4,9 +4,10 @@ use Rattle.std.proofs.lemmas.List.{take_all}
 use Rattle.std.proofs.lemmas.Option.{slice_get-get_or}
 use Rattle.llvm_core.specs.declared.code.LLVMValue.{LLVMValue}
 use Rattle.dialect_core.specs.declared.ops.Value.{Value}
-use Rattle.from_llvm_ir.specs.declared.conversion_err.ConversionErr.TheVariants as E
+use Rattle.from_consts.specs.declared.conversion_err.ConversionErr.TheVariants as E
 use Rattle.from_llvm_ir.specs.Values.{value_at, AreNoted}
-use Rattle.from_llvm_ir.proofs.ForwardLaws.{forward_at, passed_on}
+use Rattle.held_types.proofs.WalkLaws.{passed_on}
+use Rattle.from_llvm_ir.proofs.ForwardLaws.{forward_at}
 use Rattle.from_llvm_ir.proofs.ListLaws.{matched_next}
 use Rattle.from_llvm_ir.proofs.values.known_each.Goals as goal
 

@@ -4,7 +4,8 @@ use Rattle.std.proofs.lemmas.Option.{slice_get-get_or}
 use Rattle.llvm_core.specs.declared.code.LLVMValue.{LLVMValue}
 use Rattle.dialect_core.specs.declared.ops.Value.{Value}
 use Rattle.from_llvm_ir.specs.Values.{value_at}
-use Rattle.from_llvm_ir.proofs.ForwardLaws.{forward_at, passed_on}
+use Rattle.held_types.proofs.WalkLaws.{passed_on}
+use Rattle.from_llvm_ir.proofs.ForwardLaws.{forward_at}
 use Rattle.from_llvm_ir.proofs.ListLaws.{matched_one, matched_two}
 use Rattle.from_llvm_ir.proofs.values.known_values.Goals as goal
 

@@ -1,8 +1,8 @@
-//! Why an import refuses a module.
+//! Why a conversion of a type refuses it, and an import a module.
 
 ghost use Rattle.std.specs.Prelude.{◌≡◌};
-ghost use Rattle.from_llvm_ir.specs.declared.conversion_err.ConversionErr.TheVariants.{NoMemory};
-ghost use Rattle.from_llvm_ir.specs.Forward.{of_held, of_struct};
+ghost use Rattle.from_consts.specs.declared.conversion_err.ConversionErr.TheVariants.{NoMemory};
+ghost use Rattle.from_consts.specs.Forward.{of_held, of_struct};
 
 use dialect_types::struct_err::StructErr;
 use held_types::held_structs::HeldErr;
@@ -16,23 +16,23 @@ use thiserror::Error;
 /// What is not translated.
 #[derive(Clone, Copy, PartialEq, Eq, Debug, Drop)]
 pub enum Unsupported {
-    /// A type for which the dialect has none, which the type of a value of a function is, or holds.
+    /// A type for which the dialect has none: the type that is converted, or in an import that of a value, is it or holds it.
     Ty(OtherType),
 }
 
-/// Why an import refuses a module.
+/// Why a type is not converted, or a module not imported.
 #[derive(Drop, Error)]
 pub enum ConversionErr {
-    /// The result of an instruction is used where it is not defined: its name, empty where it has none, and the
+    /// Of an import alone. The result of an instruction is used where it is not defined: its name, empty where it has none, and the
     /// result. Some walk to the use misses the definition; or no walk reaches the use, nor the definition, which is
     /// in another block; or they share a block, and the definition is not ahead of the use.
     #[error("UndefinedValue")]
     UndefinedValue(Text, LLVMValue),
-    /// A part of the module that is not translated.
+    /// A part that is not translated.
     #[error("Unsupported")]
     Unsupported(Unsupported),
-    /// The identifier of a struct that values hold is that of a struct of the context with another body: `DifferentBody`. Want
-    /// of memory never stands inside.
+    /// The identifier of a struct that is held is that of a struct of the context with another body: `DifferentBody`. Want of
+    /// memory never stands inside.
     #[error("Struct")]
     Struct(StructErr),
     /// Memory is wanting.

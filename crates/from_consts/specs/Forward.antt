@@ -3,9 +3,9 @@ use Rattle.dialect_types.specs.declared.struct_err.StructErr.{StructErr}
 use Rattle.dialect_types.specs.declared.struct_err.StructErr.TheVariants as S
 use Rattle.held_types.specs.declared.held_structs.HeldErr.{HeldErr}
 use Rattle.held_types.specs.declared.held_structs.HeldErr.TheVariants as H
-use Rattle.from_llvm_ir.specs.declared.conversion_err.ConversionErr.{ConversionErr}
-use Rattle.from_llvm_ir.specs.declared.conversion_err.ConversionErr.TheVariants as E
-use Rattle.from_llvm_ir.specs.declared.conversion_err.Unsupported.TheVariants as U
+use Rattle.from_consts.specs.declared.conversion_err.ConversionErr.{ConversionErr}
+use Rattle.from_consts.specs.declared.conversion_err.ConversionErr.TheVariants as E
+use Rattle.from_consts.specs.declared.conversion_err.Unsupported.TheVariants as U
 
 abbrev pub of_held : HeldErr → ConversionErr
 of_held (H.Lacks of) = E.Unsupported (U.Ty of)

@@ -1,0 +1,7 @@
+//! Types of an LLVM module, converted one by one into a context.
+#![tactic(auto)]
+
+pub mod const_context;
+pub mod conversion_err;
+pub mod laws;
+pub mod types;
