@@ -56,3 +56,7 @@ pub mod OpDataLaws
 pub mod FuncDataLaws
 pub mod ReadableLaws
 pub mod OwnLaws
+pub mod ConversionLaws
+pub mod MeantLaws
+pub mod GivingLaws
+pub mod WidthLaws

@@ -16,3 +16,5 @@ pub mod Functions
 pub mod Narrow
 pub mod Own
 pub mod Structs
+pub mod Conversion
+pub mod Giving

@@ -25,5 +25,7 @@ pub mod room;
 pub mod run_map;
 pub mod structs;
 pub mod to_llvm_err;
+pub mod type_conversion;
+pub mod type_laws;
 pub mod types;
 pub mod values;
