@@ -23,6 +23,10 @@ mod modules;
 #[cfg(test)]
 mod naming;
 #[cfg(test)]
+mod one_type;
+#[cfg(test)]
+mod one_type_back;
+#[cfg(test)]
 mod orders;
 #[cfg(test)]
 mod outside;
