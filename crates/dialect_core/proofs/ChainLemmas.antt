@@ -1,4 +1,4 @@
--- Chains of links: what a walk finds, and how a chain grows at its end.
+-- Chains of links: what a walk finds, and the operations of a chain.
 use Rattle.std.proofs.Common.{◌≡◌, ◌<◌, ◌≤◌, ◌⊎◌, ℕ, zero, suc, Bool, true, false, nat_eq, List, [], ◌∷◌, ◌++◌, Option, Some, None, length, map, slice_get, get_or, ap, sym, subst, ◌∙◌, refl, inl, inr, arith, if◌then◌else◌}
 use Rattle.std.specs.Option.{option_and_then}
 use Rattle.std.specs.List.{list_any}
@@ -34,19 +34,6 @@ last-has [] l h = cc
 last-has (x ∷ []) l h = inl (let e : x ≡ l = cc in ap (λ (o : OpRef). o.0) e)
 last-has (x ∷ (y ∷ xs)) l h = inr (last-has (y ∷ xs) l h)
 
--- an operation comes after the last of a chain
-pub chain-append : (links others : List Link) (s : Option OpRef) (xs : List OpRef) (op l : OpRef) → IsChain links s xs → last_of xs ≡ Some l → AllApart xs
-    → next_at others l ≡ Some op → next_at others op ≡ None → ((o : OpRef) → Has o.0 xs → ¬ (o.0 ≡ l.0) → next_at others o ≡ next_at links o) → IsChain others s (xs ++ op ∷ [])
-chain-append links others s [] op l h last apart to_op ends same = cc
-chain-append links others s (x ∷ []) op l h last apart to_op ends same =
-    let e : x ≡ l = cc in
-    (h.0, (ap (next_at others) e ∙ to_op, ends))
-chain-append links others s (x ∷ (y ∷ xs)) op l h last apart to_op ends same =
-    let P : Option OpRef → Type 0 = λ t. IsChain others t ((y ∷ xs) ++ op ∷ []) in
-    let Q : ℕ → Type 0 = λ n. Has n (y ∷ xs) in
-    let other : ¬ (x.0 ≡ l.0) = λ e. apart.0 (subst Q (sym e) (last-has (y ∷ xs) l last)) in
-    (h.0, subst P (sym (same x (inl refl) other)) (chain-append links others (next_at links x) (y ∷ xs) op l h.1 last apart.1 to_op ends (λ o k. same o (inr k))))
-
 -- the next of an operation of a chain
 pub next-chain : (links : List Link) (s : Option OpRef) (xs : List OpRef) (op : OpRef) → IsChain links s xs → Has op.0 xs → next_of op.0 xs ≡ next_at links op
 next-chain links s [] op h k = absurd k
@@ -68,20 +55,6 @@ Has-append n [] op (inr h) = absurd h
 Has-append n (x ∷ xs) op (inl h) = inl (inl h)
 Has-append n (x ∷ xs) op (inr h) = elim (Has-append n xs op h) [ inl old ↦ inl (inr old) | inr new ↦ inr new ]
 
-pub Has-more : (n : ℕ) (xs : List OpRef) (op : OpRef) → Has n xs → Has n (xs ++ op ∷ [])
-Has-more n [] op h = absurd h
-Has-more n (x ∷ xs) op (inl h) = inl h
-Has-more n (x ∷ xs) op (inr h) = inr (Has-more n xs op h)
-
-pub Has-last : (xs : List OpRef) (op : OpRef) → Has op.0 (xs ++ op ∷ [])
-Has-last [] op = inl refl
-Has-last (x ∷ xs) op = inr (Has-last xs op)
-
-pub AllApart-append : (xs : List OpRef) (op : OpRef) → AllApart xs → ¬ Has op.0 xs → AllApart (xs ++ op ∷ [])
-AllApart-append [] op h fresh = (λ k. k, tt)
-AllApart-append (x ∷ xs) op h fresh =
-    (λ k. elim (Has-append x.0 xs op k) [ inl old ↦ h.0 old | inr new ↦ fresh (inl (sym new)) ], AllApart-append xs op h.1 (λ k. fresh (inr k)))
-
 pub last_of-append : (xs : List OpRef) (op : OpRef) → last_of (xs ++ op ∷ []) ≡ Some op
 last_of-append [] op = refl
 last_of-append (x ∷ []) op = refl
@@ -97,10 +70,6 @@ AllOf-has links b (x ∷ xs) o h (inr there) = AllOf-has links b xs o h.1 there
 pub AllOf-same : (links others : List Link) (b : ℕ) (xs : List OpRef) → ((o : OpRef) → Has o.0 xs → block_at others o ≡ block_at links o) → AllOf links b xs → AllOf others b xs
 AllOf-same links others b [] same h = tt
 AllOf-same links others b (x ∷ xs) same h = (same x (inl refl) ∙ h.0, AllOf-same links others b xs (λ o k. same o (inr k)) h.1)
-
-pub AllOf-append : (links : List Link) (b : ℕ) (xs : List OpRef) (op : OpRef) → AllOf links b xs → block_at links op ≡ Some (record { 0 = b }) → AllOf links b (xs ++ op ∷ [])
-AllOf-append links b [] op h k = (k, tt)
-AllOf-append links b (x ∷ xs) op h k = (h.0, AllOf-append links b xs op h.1 k)
 
 -- an operation that has a block is there
 pub block_within : (links : List Link) (o : OpRef) (b : _) → block_at links o ≡ Some b → o.0 < length links

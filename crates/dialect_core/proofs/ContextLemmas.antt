@@ -1,10 +1,10 @@
 -- What operations and blocks name stays there when the building calls add to them.
-use Rattle.std.proofs.Common.{◌≡◌, ◌<◌, ◌≤◌, ◌+◌, ◌⊎◌, ℕ, zero, suc, Bool, true, false, nat_eq, if◌then◌else◌, List, [], ◌∷◌, ◌++◌, Option, Some, None, All, length, slice_get, slice_set, get_or, ap, sym, ◌∙◌, refl, inl, inr, arith, length-append}
+use Rattle.std.proofs.Common.{◌≡◌, ◌<◌, ◌≤◌, ◌+◌, ◌⊎◌, ℕ, zero, suc, List, [], ◌∷◌, ◌++◌, Option, Some, None, All, length, slice_get, slice_set, get_or, ap, sym, ◌∙◌, refl, inl, inr, arith, length-append}
 use Rattle.std.specs.Option.{option_map, option_map_or}
-use Rattle.std.proofs.lemmas.Option.{slice_get_within, slice_get-get_or, none-some, same_Some}
+use Rattle.std.proofs.lemmas.Option.{slice_get_within, slice_get-get_or, none-some}
 use Rattle.std.proofs.lemmas.List.{length-set}
 use Rattle.dialect_types.proofs.TreeLemmas.{push_cases}
-use Rattle.support.proofs.ListLaws.{slice_get-before, length-with_change}
+use Rattle.support.proofs.ListLaws.{slice_get-before}
 use Rattle.support.specs.Changes.{with_change}
 use Rattle.dialect_types.specs.declared.types.TypeHandle.{TypeHandle}
 use Rattle.dialect_types.specs.declared.types.TypeKind.{TypeKind}
@@ -16,9 +16,8 @@ use Rattle.dialect_core.specs.declared.ops.OpKind.{OpKind}
 use Rattle.dialect_core.specs.declared.ops.OpData.{OpData}
 use Rattle.dialect_core.specs.declared.ops.BlockData.{BlockData}
 use Rattle.dialect_core.specs.Lists.{Lists}
-use Rattle.dialect_core.specs.ContextData.{ContextData, with_op, with_name, with_argument, with_block, with_appended, IsValueWithin, IsOpWithin, IsContext, kind_at, HoldsMore}
-use Rattle.dialect_core.proofs.FilterLemmas.{change_get}
-use Rattle.dialect_core.proofs.ListLemmas.{slice_get-last, slice_get-set_same, slice_get-set_other}
+use Rattle.dialect_core.specs.ContextData.{ContextData, with_op, with_name, with_argument, with_block, IsValueWithin, IsOpWithin, IsContext, kind_at, HoldsMore}
+use Rattle.dialect_core.proofs.ListLemmas.{slice_get-last}
 
 -- a change at a place that is there
 pub with_change_at : {X : Type 0} (f : X → X) (i : ℕ) (xs : List X) (x : X) → i < length xs → x ≡ get_or xs i x → with_change f i xs ≡ slice_set xs i (f x)
@@ -120,41 +119,6 @@ region_kept ops blocks reserved all parents lists longer o x region b new h with
     (set_op_kept ops (blocks ++ new ∷ []) parents (lists ++ [] ∷ []) o.0 (record x { blocks = x.blocks ++ b ∷ [] }) more
     (rw few (region_within (length ops) (length blocks) x b (op_within ops blocks parents lists o.0 x h within is_x) (omega (arith, is_b, h.list_each)))))
 
--- the operations of a list with one more
-push_standing : (parents : List (Option BlockRef)) (b : BlockRef) (xs : List OpRef) (o : OpRef) → All (λ (x : OpRef). slice_get parents x.0 ≡ Some (Some b)) xs → slice_get parents o.0 ≡ Some (Some b) → (k : ℕ) (d : OpRef) → k < length (xs ++ o ∷ []) → slice_get parents (get_or (xs ++ o ∷ []) k d).0 ≡ Some (Some b)
-push_standing parents b [] o h new zero d l = new
-push_standing parents b [] o h new (suc k) d l = absurd (omega arith)
-push_standing parents b (x ∷ xs) o h new zero d l = h 0 d (omega arith)
-push_standing parents b (x ∷ xs) o h new (suc k) d l = push_standing parents b xs o (λ j e within. h (suc j) e (omega arith)) new k d (omega arith)
-
--- an operation comes last in a block
-module _ (ops : List OpData) (blocks : List BlockData) (parents : List (Option BlockRef)) (lists : List (List OpRef)) (o : OpRef) (b : BlockRef) (h : IsContext ops blocks parents lists) (free : slice_get parents o.0 ≡ Some None) where
-  kept_parent : (x : OpRef) (q : BlockRef) → slice_get parents x.0 ≡ Some (Some q) → slice_get (slice_set parents o.0 (Some b)) x.0 ≡ Some (Some q)
-  kept_parent x q at = slice_get-set_other parents o.0 x.0 (Some b) (λ same. let clash : Some None ≡ Some (Some q) = sym free ∙ ap (slice_get parents) (sym same) ∙ at in let no : None ≡ Some q = cc in cc) ∙ at
-
-  new_parent : slice_get (slice_set parents o.0 (Some b)) o.0 ≡ Some (Some b)
-  new_parent = slice_get-set_same parents o.0 (Some b) (slice_get_within parents o.0 None free)
-
-  standing_here : (c : ℕ) (ys xs : List OpRef) → c ≡ b.0 → slice_get lists c ≡ Some ys → ys ++ o ∷ [] ≡ xs → All (λ (x : OpRef). slice_get (slice_set parents o.0 (Some b)) x.0 ≡ Some (Some (record { 0 = c }))) xs
-  standing_here c ys xs same at is = rw (← is, same) (λ k d l. push_standing (slice_set parents o.0 (Some b)) b ys o (λ j e within. kept_parent (get_or ys j e) b (rw same at (h.standing c ys at j e within))) new_parent k d l)
-
-  standing_still : (c : ℕ) (xs : List OpRef) → slice_get (with_change (λ (xs : List OpRef). xs ++ o ∷ []) b.0 lists) c ≡ Some xs → All (λ (x : OpRef). slice_get (slice_set parents o.0 (Some b)) x.0 ≡ Some (Some (record { 0 = c }))) xs
-  standing_still c xs at = by (nat_eq c b.0) refl (slice_get lists c) refl (sym (change_get (λ (xs : List OpRef). xs ++ o ∷ []) b.0 lists c) ∙ at)
-    where
-      by : (t : Bool) → nat_eq c b.0 ≡ t → (ys : Option (List OpRef)) → slice_get lists c ≡ ys → (if t then option_map (λ (xs : List OpRef). xs ++ o ∷ []) (slice_get lists c) else slice_get lists c) ≡ Some xs → All (λ (x : OpRef). slice_get (slice_set parents o.0 (Some b)) x.0 ≡ Some (Some (record { 0 = c }))) xs
-      by true same None gone is = absurd (none-some xs (sym (ap (option_map (λ (xs : List OpRef). xs ++ o ∷ [])) gone) ∙ is))
-      by true same (Some ys) there is = standing_here c ys xs (grind (arith, same)) there (same_Some _ _ (sym (ap (option_map (λ (xs : List OpRef). xs ++ o ∷ [])) there) ∙ is))
-      by false differs ys there is = λ k d l. kept_parent (get_or xs k d) (record { 0 = c }) (h.standing c xs is k d l)
-
-  pub appended_kept : IsContext ops blocks (slice_set parents o.0 (Some b)) (with_change (λ (xs : List OpRef). xs ++ o ∷ []) b.0 lists)
-  appended_kept = record {
-    parent_each = omega (arith, h.parent_each, length-set parents o.0 (Some b));
-    list_each = length-with_change (λ (xs : List OpRef). xs ++ o ∷ []) b.0 lists ∙ h.list_each;
-    within = h.within;
-    standing = standing_still;
-    holders = h.holders;
-  }
-
 -- ---- what the writes of a call make of the context
 
 abbrev pub context : List TypeKind → List OpData → List BlockData → List (Option BlockRef) → List (List OpRef) → ContextData
@@ -189,12 +153,6 @@ pub op_view : (types : List TypeKind) (ops reserved all : List OpData) (blocks :
 op_view types ops reserved all blocks l m x is_reserved is_all is_lists =
     ap (λ (xs : List OpData). context types xs blocks m.parents m.lists) (is_all ∙ ap (λ (xs : List OpData). xs ++ x ∷ []) is_reserved)
     ∙ ap (λ (m : Lists). context types (ops ++ x ∷ []) blocks m.parents m.lists) is_lists
-
-pub appended_view : (types : List TypeKind) (ops : List OpData) (blocks : List BlockData) (l m : Lists) (o : OpRef) (b : BlockRef) → slice_get l.parents o.0 ≡ Some None → m ≡ record { parents = slice_set l.parents o.0 (Some b); lists = with_change (λ (xs : List OpRef). xs ++ o ∷ []) b.0 l.lists }
-    → context types ops blocks m.parents m.lists ≡ with_appended (context types ops blocks l.parents l.lists) o b
-appended_view types ops blocks l m o b free is =
-    ap (λ (m : Lists). context types ops blocks m.parents m.lists) is
-    ∙ ap (λ (p : Option (Option BlockRef)). context types ops blocks (option_map_or (λ _. slice_set l.parents o.0 (Some b)) p l.parents) (with_change (λ (xs : List OpRef). xs ++ o ∷ []) b.0 l.lists)) (sym free)
 
 -- ---- what the calls need and say
 

@@ -5,6 +5,13 @@ pub mod FewLemmas
 pub mod FilterLemmas
 pub mod InsertLemmas
 pub mod LinkLemmas
+pub mod SplitLemmas
+pub mod StrandLemmas
+pub mod TieLemmas
+pub mod SpliceLemmas
+pub mod PlaceLemmas
+pub mod ChangeLemmas
+pub mod MoveLemmas
 pub mod ContextLemmas
 pub mod ListLemmas
 pub mod NestedLaws
@@ -19,7 +26,6 @@ pub mod LineLemmas
 pub mod RuleLemmas
 pub mod ReadLemmas
 pub mod RegionLemmas
-pub mod AppendLemmas
 pub mod WalkLemmas
 pub mod NumberLemmas
 pub mod FormLaws

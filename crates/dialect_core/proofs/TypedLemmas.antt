@@ -16,7 +16,7 @@ use Rattle.dialect_core.specs.declared.ops.OpKind.TheVariants as K
 use Rattle.dialect_core.specs.declared.ops.OpData.{OpData}
 use Rattle.dialect_core.specs.declared.ops.BlockData.{BlockData}
 use Rattle.dialect_core.specs.Lending.{with_types}
-use Rattle.dialect_core.specs.ContextData.{ContextData, with_op, with_block, with_argument, with_name, with_appended}
+use Rattle.dialect_core.specs.ContextData.{ContextData, with_op, with_block, with_argument, with_name}
 use Rattle.dialect_core.specs.Data.{HasKindTypesBelow, IsTypedOp, IsTyped}
 use Rattle.dialect_core.proofs.FilterLemmas.{change_get}
 
@@ -67,9 +67,6 @@ argument_typed c b t h new = record {
     | inr is ↦ rw is.2 (λ k d l. push_typed is.0.args t (length c.types) (h.blocks p is.0 is.1) new k d l)
   ];
 }
-
-pub appended_typed : (c : ContextData) (o : OpRef) (b : BlockRef) → IsTyped c → IsTyped (with_appended c o b)
-appended_typed c o b h = record { ops = h.ops; blocks = h.blocks }
 
 -- ---- more types
 

@@ -6,6 +6,7 @@ use Rattle.dialect_types.specs.declared.types.TypeHandle.{TypeHandle}
 use Rattle.dialect_types.specs.declared.types.TypeKind.{TypeKind}
 use Rattle.dialect_core.specs.declared.numbers.OpRef.{OpRef}
 use Rattle.dialect_core.specs.declared.numbers.BlockRef.{BlockRef}
+use Rattle.dialect_core.specs.Lists.{with_after, without}
 use Rattle.dialect_core.specs.declared.ops.Value.{Value}
 use Rattle.dialect_core.specs.declared.ops.Value.TheVariants.{Result, Argument}
 use Rattle.dialect_core.specs.declared.ops.Successor.{Successor}
@@ -57,6 +58,27 @@ abbrev pub with_appended : ContextData → OpRef → BlockRef → ContextData
 with_appended c o b = record c {
   parents = with_change (λ _. Some b) o.0 c.parents;
   lists = with_change (λ (xs : List OpRef). xs ++ o ∷ []) b.0 c.lists;
+}
+
+-- the operation stands first in the block
+abbrev pub with_prepended : ContextData → OpRef → BlockRef → ContextData
+with_prepended c o b = record c {
+  parents = with_change (λ _. Some b) o.0 c.parents;
+  lists = with_change (λ (xs : List OpRef). o ∷ xs) b.0 c.lists;
+}
+
+-- the operation stands directly behind another in the block
+abbrev pub with_inserted : ContextData → OpRef → OpRef → BlockRef → ContextData
+with_inserted c o other b = record c {
+  parents = with_change (λ _. Some b) o.0 c.parents;
+  lists = with_change (with_after o other) b.0 c.lists;
+}
+
+-- the operation stands in no block, and in the block no longer
+abbrev pub with_unlinked : ContextData → OpRef → BlockRef → ContextData
+with_unlinked c o b = record c {
+  parents = with_change (λ _. None) o.0 c.parents;
+  lists = with_change (without o) b.0 c.lists;
 }
 
 -- ---- conditions of the calls

@@ -16,7 +16,7 @@ use Rattle.dialect_core.specs.declared.ops.OpKind.TheVariants as K
 use Rattle.dialect_core.specs.declared.ops.OpData.{OpData}
 use Rattle.kinds.specs.declared.op.Op.{Op}
 use Rattle.dialect_core.specs.declared.ops.BlockData.{BlockData}
-use Rattle.dialect_core.specs.Lists.{list_at}
+use Rattle.dialect_core.specs.Lists.{list_at, put_after, leave_out}
 use Rattle.dialect_core.specs.ContextData.{ContextData, llvm_name_at, region_at}
 
 -- ---- the data
@@ -147,6 +147,18 @@ type_in c (Argument b i) = option_and_then (λ (x : DialectBlock). slice_get x.a
 abbrev pub with_func : DialectModule → Func → DialectModule
 with_func d f = record d { functions = d.functions ++ f ∷ [] }
 
+-- the module has the function first
+abbrev pub with_func_first : DialectModule → Func → DialectModule
+with_func_first d f = record d { functions = f ∷ d.functions }
+
+-- the module has the function f directly behind that of the number n
+abbrev pub with_func_after : DialectModule → Func → ℕ → DialectModule
+with_func_after d f n = record d { functions = put_after (λ (x : Func). x.number) f n d.functions }
+
+-- the module has no longer the function of the number n
+abbrev pub without_func : DialectModule → ℕ → DialectModule
+without_func d n = record d { functions = leave_out (λ (x : Func). x.number) n d.functions }
+
 -- the function of the number f has that LLVM name
 abbrev pub with_func_llvm_name : DialectModule → ℕ → List ℕ → DialectModule
 with_func_llvm_name d f name = record d { functions = map (λ (x : Func). if nat_eq x.number f then record x { llvm_name = Some name } else x) d.functions }
@@ -167,6 +179,18 @@ at_block f b d = record d {
 -- the block of the number b has the operation last
 abbrev pub with_block_op : DialectModule → ℕ → DialectOp → DialectModule
 with_block_op d b o = at_block (λ (y : DialectBlock). record y { ops = y.ops ++ o ∷ [] }) b d
+
+-- the block of the number b has the operation first
+abbrev pub with_block_op_first : DialectModule → ℕ → DialectOp → DialectModule
+with_block_op_first d b o = at_block (λ (y : DialectBlock). record y { ops = o ∷ y.ops }) b d
+
+-- the block of the number b has the operation o directly behind that of the number n
+abbrev pub with_block_op_after : DialectModule → ℕ → DialectOp → ℕ → DialectModule
+with_block_op_after d b o n = at_block (λ (y : DialectBlock). record y { ops = put_after (λ (x : DialectOp). x.number) o n y.ops }) b d
+
+-- the block of the number b has no longer the operation of the number n
+abbrev pub without_block_op : DialectModule → ℕ → ℕ → DialectModule
+without_block_op d b n = at_block (λ (y : DialectBlock). record y { ops = leave_out (λ (x : DialectOp). x.number) n y.ops }) b d
 
 -- the block of the number b has an argument of that type last
 abbrev pub with_block_arg : DialectModule → ℕ → TypeTree → DialectModule

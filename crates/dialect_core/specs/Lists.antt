@@ -14,6 +14,15 @@ abbrev pub next_of : ℕ → List OpRef → Option OpRef
 next_of n [] = None
 next_of n (x ∷ xs) = if nat_eq x.0 n then slice_get xs 0 else next_of n xs
 
+-- the operation before that of the number n, where p comes before the list
+abbrev pub prev_from : Option OpRef → ℕ → List OpRef → Option OpRef
+prev_from p n [] = None
+prev_from p n (x ∷ xs) = if nat_eq x.0 n then p else prev_from (Some x) n xs
+
+-- the operation before that of the number n
+abbrev pub prev_of : ℕ → List OpRef → Option OpRef
+prev_of n xs = prev_from None n xs
+
 -- the operations of a block, none where there is no such block
 abbrev pub list_at : List (List OpRef) → BlockRef → List OpRef
 list_at lists b = slice_index_or lists b.0 []
@@ -21,6 +30,41 @@ list_at lists b = slice_index_or lists b.0 []
 -- the operation after another in its block
 abbrev pub next_in : Lists → OpRef → Option OpRef
 next_in l op = option_and_then (λ b. next_of op.0 (list_at l.lists b)) (option_and_then (λ p. p) (slice_get l.parents op.0))
+
+-- the operation before another in its block
+abbrev pub prev_in : Lists → OpRef → Option OpRef
+prev_in l op = option_and_then (λ b. prev_of op.0 (list_at l.lists b)) (option_and_then (λ p. p) (slice_get l.parents op.0))
+
+-- the operation stands in a block
+abbrev pub IsStanding : List (Option BlockRef) → OpRef → Type 0
+IsStanding parents op = (b : BlockRef) × (slice_get parents op.0 ≡ Some (Some b))
+
+-- ---- an item comes into a list, or goes
+
+-- y stands directly behind the first item of the number n
+abbrev pub put_after : {X : Type 0} → (X → ℕ) → X → ℕ → List X → List X
+put_after number y n [] = []
+put_after number y n (x ∷ xs) = if nat_eq (number x) n then x ∷ (y ∷ xs) else x ∷ put_after number y n xs
+
+-- the first item of the number n is left out
+abbrev pub leave_out : {X : Type 0} → (X → ℕ) → ℕ → List X → List X
+leave_out number n [] = []
+leave_out number n (x ∷ xs) = if nat_eq (number x) n then xs else x ∷ leave_out number n xs
+
+-- the operation `op` stands directly behind another
+abbrev pub with_after : OpRef → OpRef → List OpRef → List OpRef
+with_after op other xs = put_after (λ (o : OpRef). o.0) op other.0 xs
+
+-- the operation `op` stands directly behind another, or first where none is given
+abbrev pub with_behind : Option OpRef → OpRef → List OpRef → List OpRef
+with_behind None op xs = op ∷ xs
+with_behind (Some other) op xs = with_after op other xs
+
+-- the operations but one
+abbrev pub without : OpRef → List OpRef → List OpRef
+without op xs = leave_out (λ (o : OpRef). o.0) op.0 xs
+
+-- ---- items of lists
 
 -- x is an item of the list
 abbrev pub Stands : {X : Type 0} → X → List X → Type 0

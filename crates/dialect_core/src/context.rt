@@ -10,6 +10,7 @@ ghost use Rattle.dialect_core.specs.ContextData.{empty_context, with_op, with_bl
 
 mod holding;
 mod lending;
+mod moving;
 mod reading;
 mod text;
 mod well_formed;

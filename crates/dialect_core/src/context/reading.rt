@@ -2,7 +2,7 @@
 
 ghost use Rattle.std.specs.Prelude.{◌≡◌, is_some, ◌<◌, IfOk, IfSome, Some, All, length, slice_get};
 ghost use Rattle.std.specs.Option.{option_map, option_copied};
-ghost use Rattle.dialect_core.specs.Lists.{AllApart, next_in, list_at};
+ghost use Rattle.dialect_core.specs.Lists.{AllApart, next_in, prev_in, list_at};
 ghost use Rattle.dialect_core.specs.Data.{held};
 ghost use Rattle.dialect_core.specs.ContextData.{is_func, IsValueWithin, IsSuccessorWithin, IsSymbol, llvm_name_at, symbol_at, parent_of};
 
@@ -35,6 +35,15 @@ impl Context {
         ensures within { IfSome result (λ o. o.0 < length self.now.ops) }
     {
         self.lists.next(op)
+    }
+
+    /// The operation before another in its block, None before the first and for one in no block.
+    pub fn prev_op(&self, op: OpRef) -> Option<OpRef>
+        requires { op.0 < length self.now.ops }
+        ensures prev { result ≡ prev_in (record { parents = self.now.parents; lists = self.now.lists }) op }
+        ensures within { IfSome result (λ o. o.0 < length self.now.ops) }
+    {
+        self.lists.prev(op)
     }
 
     /// The operations of a block in order.

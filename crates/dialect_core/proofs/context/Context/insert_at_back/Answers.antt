@@ -1,10 +1,11 @@
 -- What `context::Context::insert_at_back` owes besides what the check finds.
-use Rattle.dialect_core.proofs.ContextLemmas.{context, appended_kept, appended_view}
-use Rattle.std.proofs.Common.{sym, subst, ap, ◌∙◌}
-use Rattle.dialect_core.specs.Data.{data_of, IsTyped}
-use Rattle.dialect_core.specs.ContextData.{ContextData}
-use Rattle.dialect_core.proofs.InsertLemmas.{inserted_op_data, inserted_func_data, other_func_data}
-use Rattle.dialect_core.proofs.TypedLemmas.{appended_typed}
+use Rattle.std.proofs.Common.{List, ◌∷◌, [], ◌++◌, Some, None}
+use Rattle.dialect_types.specs.Trees.{type_trees}
+use Rattle.dialect_core.specs.declared.numbers.OpRef.{OpRef}
+use Rattle.dialect_core.specs.Data.{DialectOp, Func, op_at, func_in}
+use Rattle.dialect_core.proofs.ContextLemmas.{context}
+use Rattle.dialect_core.proofs.ChangeLemmas.{last_quiet, last_said}
+use Rattle.dialect_core.proofs.MoveLemmas.{came_kept, last_came, call_typed, call_op_data, call_func_data, call_other_data}
 use Rattle.dialect_core.proofs.context.Context.insert_at_back.Goals as goal
 
 pub invariant_of-self : goal.invariant_of-self
@@ -12,7 +13,7 @@ invariant_of-self g c =
     let free = rw (← c.self.view_is) at c.requires.free in
     rw c.append.ensures
     (record {
-      numbers = appended_kept c.self.inside.ops.items c.self.inside.blocks.items c.self.inside.lists.parents c.self.inside.lists.lists c.args.op c.args.block c.self.invariant.numbers free;
+      numbers = came_kept c.self.inside.ops.items c.self.inside.blocks.items c.self.inside.lists.parents c.self.inside.lists.lists c.args.op c.args.block (λ (xs : List OpRef). xs ++ c.args.op ∷ []) c.self.invariant.numbers free (last_came c.args.op);
       regions = c.self.invariant.regions;
     })
 
@@ -20,26 +21,26 @@ pub returns-clause-data_op : goal.returns-clause-data_op
 returns-clause-data_op g c =
     let free = rw (← c.self.view_is) at c.requires.free in
     let block = rw (← c.self.view_is) at c.requires.block in
-    let viewed = appended_view c.self.inside.types c.self.inside.ops.items c.self.inside.blocks.items c.self.inside.lists c.append.new.self c.args.op c.args.block free c.append.ensures in
-    rw (← c.self.view_is) (λ d is m. ap (λ (d : ContextData). data_of d m) viewed ∙ inserted_op_data (context c.self.inside.types c.self.inside.ops.items c.self.inside.blocks.items c.self.inside.lists.parents c.self.inside.lists.lists) c.args.op c.args.block d c.self.invariant.numbers block is m)
+    rw (← c.self.view_is)
+    (λ d is. call_op_data c.self.inside.types c.self.inside.ops.items c.self.inside.blocks.items c.self.inside.lists c.append.new.self c.args.op (Some c.args.block) None c.args.block (λ (xs : List OpRef). xs ++ c.args.op ∷ []) free c.append.ensures c.self.invariant.numbers block (λ (ds : List DialectOp). ds ++ d ∷ []) d is
+    (last_said (op_at (type_trees c.self.inside.types) c.self.inside.ops.items) c.args.op d is) (λ f none. last_quiet f c.args.op none))
 
 pub returns-clause-data_func : goal.returns-clause-data_func
 returns-clause-data_func g c =
     let free = rw (← c.self.view_is) at c.requires.free in
     let block = rw (← c.self.view_is) at c.requires.block in
-    let viewed = appended_view c.self.inside.types c.self.inside.ops.items c.self.inside.blocks.items c.self.inside.lists c.append.new.self c.args.op c.args.block free c.append.ensures in
-    rw (← c.self.view_is) (λ f is m region. ap (λ (d : ContextData). data_of d m) viewed ∙ inserted_func_data (context c.self.inside.types c.self.inside.ops.items c.self.inside.blocks.items c.self.inside.lists.parents c.self.inside.lists.lists) c.args.op c.args.block f c.self.invariant.numbers block is m region)
+    rw (← c.self.view_is)
+    (λ f is. call_func_data c.self.inside.types c.self.inside.ops.items c.self.inside.blocks.items c.self.inside.lists c.append.new.self c.args.op (Some c.args.block) None c.args.block (λ (xs : List OpRef). xs ++ c.args.op ∷ []) free c.append.ensures c.self.invariant.numbers block (λ (fs : List Func). fs ++ f ∷ []) f is
+    (last_said (func_in (type_trees c.self.inside.types) (context c.self.inside.types c.self.inside.ops.items c.self.inside.blocks.items c.self.inside.lists.parents c.self.inside.lists.lists)) c.args.op f is) (λ f none. last_quiet f c.args.op none))
 
 pub returns-clause-data_other : goal.returns-clause-data_other
 returns-clause-data_other g c =
     let free = rw (← c.self.view_is) at c.requires.free in
     let block = rw (← c.self.view_is) at c.requires.block in
-    let viewed = appended_view c.self.inside.types c.self.inside.ops.items c.self.inside.blocks.items c.self.inside.lists c.append.new.self c.args.op c.args.block free c.append.ensures in
-    rw (← c.self.view_is) (λ f is m apart. ap (λ (d : ContextData). data_of d m) viewed ∙ other_func_data (context c.self.inside.types c.self.inside.ops.items c.self.inside.blocks.items c.self.inside.lists.parents c.self.inside.lists.lists) c.args.op c.args.block f c.self.invariant.numbers block is m apart)
+    rw (← c.self.view_is)
+    (λ f is. call_other_data c.self.inside.types c.self.inside.ops.items c.self.inside.blocks.items c.self.inside.lists c.append.new.self c.args.op (Some c.args.block) None c.args.block (λ (xs : List OpRef). xs ++ c.args.op ∷ []) free c.append.ensures c.self.invariant.numbers block f is (λ f none. last_quiet f c.args.op none))
 
 pub returns-clause-typed : goal.returns-clause-typed
 returns-clause-typed g c =
     let free = rw (← c.self.view_is) at c.requires.free in
-    let block = rw (← c.self.view_is) at c.requires.block in
-    let viewed = appended_view c.self.inside.types c.self.inside.ops.items c.self.inside.blocks.items c.self.inside.lists c.append.new.self c.args.op c.args.block free c.append.ensures in
-    rw (← c.self.view_is) (λ typed. subst IsTyped (sym viewed) (appended_typed (context c.self.inside.types c.self.inside.ops.items c.self.inside.blocks.items c.self.inside.lists.parents c.self.inside.lists.lists) c.args.op c.args.block typed))
+    rw (← c.self.view_is) (call_typed c.self.inside.types c.self.inside.ops.items c.self.inside.blocks.items c.self.inside.lists c.append.new.self c.args.op (Some c.args.block) None c.args.block (λ (xs : List OpRef). xs ++ c.args.op ∷ []) free c.append.ensures)

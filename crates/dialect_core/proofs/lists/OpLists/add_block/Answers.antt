@@ -1,6 +1,6 @@
 -- What `lists::OpLists::add_block` owes besides what the check finds.
 use Rattle.std.proofs.Common.{refl, arith}
-use Rattle.dialect_core.proofs.AppendLemmas.{listed_same}
+use Rattle.dialect_core.proofs.ReadLemmas.{listed_same}
 use Rattle.dialect_core.proofs.LinkLemmas.{add_block_linked, add_block_lists}
 use Rattle.dialect_core.proofs.lists.OpLists.add_block.Goals as goal
 

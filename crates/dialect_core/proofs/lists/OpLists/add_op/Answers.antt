@@ -1,6 +1,6 @@
 -- What `lists::OpLists::add_op` owes besides what the check finds.
 use Rattle.std.proofs.Common.{arith}
-use Rattle.dialect_core.proofs.AppendLemmas.{listed_same}
+use Rattle.dialect_core.proofs.ReadLemmas.{listed_same}
 use Rattle.dialect_core.proofs.LinkLemmas.{add_op_linked, add_op_parents, add_op_lists}
 use Rattle.dialect_core.proofs.lists.OpLists.add_op.Goals as goal
 
