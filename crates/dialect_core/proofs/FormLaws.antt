@@ -32,7 +32,7 @@ module _ (g : Func) (narrow : All IsNarrowBlock g.blocks) where
       by (Some o) is e =
           let w = find_there (λ (o : DialectOp). nat_eq o.number r.0) (ops_in g) o is in
           let b = flat_stands (λ (b : DialectBlock). b.ops) g.blocks o w.0 w.1 in
-          held_of o.result t (all_at IsNarrowOp b.0.ops (all_at IsNarrowBlock g.blocks narrow b.1.0 b.0 b.1.1).ops b.2.0 o b.2.1) e
+          held_of o.result t (all_at IsNarrowOp b.0.ops (all_at IsNarrowBlock g.blocks narrow b.1.0 b.0 b.1.1).ops b.2.0 o b.2.1).0 e
   held (Argument b i) t h = by (find (λ (x : DialectBlock). nat_eq x.number b.0) g.blocks) refl h
     where
       by : (x : Option DialectBlock) → find (λ (x : DialectBlock). nat_eq x.number b.0) g.blocks ≡ x → option_and_then (λ (x : DialectBlock). slice_get x.args i) x ≡ Some t → IsHeld t
@@ -52,7 +52,8 @@ module _ (g : Func) (narrow : All IsNarrowBlock g.blocks) where
         kind = w;
         operands = typed_held o.operands (kind_operands (value_type g) g o.operands o.result o.successors o.kind w);
         passed = all_from (λ (s : Successor). All (IsHeldValue g) s.args) o.successors (λ k s at. typed_held s.args (all_at (IsEdge (value_type g) g) o.successors edges k s at).args);
-        result = n;
+        result = n.0;
+        short = n.1;
       }
 
   form_block : (b : DialectBlock) → IsWellFormedBlock (value_type g) g b → IsNarrowBlock b → IsFormBlock g b

@@ -37,12 +37,14 @@ kind_plain : (ts : List TypeTree) (k : OpKind) → is_plain k ≡ true → (d : 
 kind_plain ts K.Module h = absurd (let e : false ≡ true = h in cc)
 kind_plain ts K.Func h = absurd (let e : false ≡ true = h in cc)
 kind_plain ts (K.Constant v) h = (_, refl, refl)
+kind_plain ts (K.Filled fill) h = (_, refl, refl)
 kind_plain ts (K.Row op) h = (_, refl, refl)
 
 plain_kind : (ts : List TypeTree) (k : OpKind) (d : Kind) → kind_of ts k ≡ Some d → is_plain k ≡ true
 plain_kind ts K.Module d h = absurd (none-some d h)
 plain_kind ts K.Func d h = absurd (none-some d h)
 plain_kind ts (K.Constant v) d h = refl
+plain_kind ts (K.Filled fill) d h = refl
 plain_kind ts (K.Row op) d h = refl
 
 module _ (c : ContextData) where

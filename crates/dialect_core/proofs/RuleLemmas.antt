@@ -20,7 +20,7 @@ use Rattle.dialect_types.specs.Trees.{TypeTree, IntegerAttr, IsDistinctAsTrees}
 use Rattle.dialect_core.specs.declared.ops.Value.{Value}
 use Rattle.dialect_core.specs.declared.ops.Successor.{Successor}
 use Rattle.dialect_core.specs.ContextData.{ContextData}
-use Rattle.dialect_core.specs.Data.{Kind, ConstantOp, RowOp, Func, type_in}
+use Rattle.dialect_core.specs.Data.{Kind, ConstantOp, FilledOp, RowOp, Func, type_in}
 use Rattle.dialect_core.specs.Checking.{tree_at}
 use Rattle.dialect_core.specs.Rules.{IsEdge, IsFirstClassBy, IsOfKind, IsTypedBy, Typing, row_fits, type_nth}
 use Rattle.dialect_core.proofs.LineLemmas.{all_at}
@@ -98,9 +98,11 @@ module _ (T : Typing) (g : Func) (vs : List Value) (own : Option TypeTree) (ss :
   -- each operand has a type
   pub kind_operands : (k : Kind) → IsOfKind T g vs own ss k → All (IsTypedBy T) vs
   kind_operands (ConstantOp (IntegerAttr t v)) h = none_hold (IsTypedBy T) vs h.bare
+  kind_operands (FilledOp fill) h = none_hold (IsTypedBy T) vs h.bare
   kind_operands (RowOp op) h = all_from (IsTypedBy T) vs (λ k v at. let w = all_at (IsFirstClassBy T) vs h.values k v at in (w.0, w.1))
 
   -- each edge keeps the rules of edges
   pub kind_edges : (k : Kind) → IsOfKind T g vs own ss k → All (IsEdge T g) ss
   kind_edges (ConstantOp (IntegerAttr t v)) h = none_hold (IsEdge T g) ss h.ends_here
+  kind_edges (FilledOp fill) h = none_hold (IsEdge T g) ss h.ends_here
   kind_edges (RowOp op) h = λ k d l. h.leads.1 k d l

@@ -31,6 +31,7 @@ module _ (ts us : List TypeTree) (c : ContextData) (types : List TypeKind) (type
   kind_same : (k : OpKind) → HasKindTypesBelow (length c.types) k → kind_of us k ≡ kind_of ts k
   kind_same K.Module h = refl
   kind_same K.Func h = refl
+  kind_same (K.Filled fill) h = refl
   kind_same (K.Constant (A.Integer t v)) h = ap (λ (x : TypeTree). Some (ConstantOp (IntegerAttr x v))) (same t h)
   kind_same (K.Row op) h = refl
 

@@ -82,6 +82,7 @@ kind_still : (n m : ℕ) → n ≤ m → (k : OpKind) → HasKindTypesBelow n k 
 kind_still n m more K.Module h = tt
 kind_still n m more K.Func h = tt
 kind_still n m more (K.Constant (A.Integer t v)) h = omega arith
+kind_still n m more (K.Filled fill) h = tt
 kind_still n m more (K.Row op) h = tt
 
 pub more_types_typed : (c : ContextData) (types : List TypeKind) → IsTyped c → length c.types ≤ length types → IsTyped (with_types c types)

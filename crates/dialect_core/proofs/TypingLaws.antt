@@ -23,7 +23,7 @@ use Rattle.dialect_core.specs.declared.ops.OpData.{OpData}
 use Rattle.dialect_core.specs.declared.ops.BlockData.{BlockData}
 use Rattle.dialect_core.specs.Lists.{Stands, list_at}
 use Rattle.dialect_core.specs.ContextData.{ContextData}
-use Rattle.dialect_core.specs.Data.{Kind, ConstantOp, RowOp, DialectOp, DialectBlock, Func, op_at, block_of, block_in, func_of, func_in, data_of, held, ops_in, value_type, type_in}
+use Rattle.dialect_core.specs.Data.{Kind, ConstantOp, FilledOp, RowOp, DialectOp, DialectBlock, Func, op_at, block_of, block_in, func_of, func_in, data_of, held, ops_in, value_type, type_in}
 use Rattle.dialect_core.specs.Form.{FitsTarget, HasOwnValues, IsFormFunc, IsValueOf, LeadsToOwn, edges_of, uses_of}
 use Rattle.dialect_core.specs.WellFormed.{IsOpenForm, IsWellFormedBlock, IsWellFormedFunc, IsWellFormedOp}
 use Rattle.dialect_core.specs.Rules.{AreEdges, IsEdge, IsFirstClassBy, IsOfKind, IsReturning, IsRow, IsTypedBy, Typing, type_nth}
@@ -157,6 +157,7 @@ module _ (T U : Typing) (g : Func) (operands : List Value) (edges : List Success
 
   kinds : (own : Option TypeTree) (k : Kind) → IsOfKind T g operands own edges k → IsOfKind U g operands own edges k
   kinds own (ConstantOp (IntegerAttr t v)) h = h
+  kinds own (FilledOp fill) h = h
   kinds own (RowOp op) h = row op own h
 
 -- a function, whose uses have the types that they had, and no target has others

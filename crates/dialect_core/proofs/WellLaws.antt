@@ -44,7 +44,7 @@ form_is_well_formed g f = record {
 narrow_block : (g : Func) (b : DialectBlock) → IsFormBlock g b → IsNarrowBlock b
 narrow_block g b f = record {
   args = f.args;
-  ops = all_from IsNarrowOp b.ops (λ k o at. let h = all_at (IsFormOp g) b.ops f.ops k o at in h.result);
+  ops = all_from IsNarrowOp b.ops (λ k o at. let h = all_at (IsFormOp g) b.ops f.ops k o at in (h.result, h.short));
 }
 
 -- a function of the form is narrow

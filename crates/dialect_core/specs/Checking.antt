@@ -77,6 +77,7 @@ abbrev pub ends_kind : OpKind → Bool
 ends_kind K.Module = false
 ends_kind K.Func = false
 ends_kind (K.Constant value) = false
+ends_kind (K.Filled fill) = false
 ends_kind (K.Row op) = ends (rule_of op).leads
 
 -- a terminator

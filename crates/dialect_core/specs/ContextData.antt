@@ -11,7 +11,7 @@ use Rattle.dialect_core.specs.declared.ops.Value.{Value}
 use Rattle.dialect_core.specs.declared.ops.Value.TheVariants.{Result, Argument}
 use Rattle.dialect_core.specs.declared.ops.Successor.{Successor}
 use Rattle.dialect_core.specs.declared.ops.OpKind.{OpKind}
-use Rattle.dialect_core.specs.declared.ops.OpKind.TheVariants.{Module, Func, Constant, Row}
+use Rattle.dialect_core.specs.declared.ops.OpKind.TheVariants.{Module, Func, Constant, Filled, Row}
 use Rattle.dialect_core.specs.declared.ops.Symbol.{Symbol}
 use Rattle.dialect_core.specs.declared.ops.OpData.{OpData}
 use Rattle.dialect_core.specs.declared.ops.BlockData.{BlockData}
@@ -87,12 +87,14 @@ abbrev pub is_module : OpKind → Bool
 is_module Module = true
 is_module Func = false
 is_module (Constant a) = false
+is_module (Filled fill) = false
 is_module (Row o) = false
 
 abbrev pub is_func : OpKind → Bool
 is_func Func = true
 is_func Module = false
 is_func (Constant a) = false
+is_func (Filled fill) = false
 is_func (Row o) = false
 
 -- neither a module nor a function
@@ -100,6 +102,7 @@ abbrev pub is_plain : OpKind → Bool
 is_plain Module = false
 is_plain Func = false
 is_plain (Constant a) = true
+is_plain (Filled fill) = true
 is_plain (Row o) = true
 
 -- the kind of an operation

@@ -14,6 +14,7 @@ use Rattle.dialect_core.specs.declared.ops.Symbol.{Symbol}
 use Rattle.dialect_core.specs.declared.ops.OpKind.{OpKind}
 use Rattle.dialect_core.specs.declared.ops.OpKind.TheVariants as K
 use Rattle.dialect_core.specs.declared.ops.OpData.{OpData}
+use Rattle.kinds.specs.declared.fill.Fill.{Fill}
 use Rattle.kinds.specs.declared.op.Op.{Op}
 use Rattle.dialect_core.specs.declared.ops.BlockData.{BlockData}
 use Rattle.dialect_core.specs.Lists.{list_at, put_after, leave_out}
@@ -21,9 +22,11 @@ use Rattle.dialect_core.specs.ContextData.{ContextData, llvm_name_at, region_at}
 
 -- ---- the data
 
--- what an operation of a function's block is: a constant, or a row of the table with its immediates
+-- what an operation of a function's block is: a constant that an attribute says, zero, undef or poison of the type of its
+-- result, or a row of the table with its immediates
 pub data Kind : Type 0 where
   ConstantOp : (value : AttrTree) → Kind
+  FilledOp : (fill : Fill) → Kind
   RowOp : (op : Op) → Kind
 
 pub record DialectOp : Type 0 where
@@ -64,6 +67,7 @@ abbrev pub kind_of : List TypeTree → OpKind → Option Kind
 kind_of ts K.Module = None
 kind_of ts K.Func = None
 kind_of ts (K.Constant value) = Some (ConstantOp (attr_tree ts value))
+kind_of ts (K.Filled fill) = Some (FilledOp fill)
 kind_of ts (K.Row op) = Some (RowOp op)
 
 abbrev pub op_of : List TypeTree → OpRef → OpData → Option DialectOp
@@ -202,6 +206,7 @@ abbrev pub HasKindTypesBelow : ℕ → OpKind → Type 0
 HasKindTypesBelow n K.Module = Unit {0}
 HasKindTypesBelow n K.Func = Unit {0}
 HasKindTypesBelow n (K.Constant value) = HasTypesBelow n value
+HasKindTypesBelow n (K.Filled fill) = Unit {0}
 HasKindTypesBelow n (K.Row op) = Unit {0}
 
 pub record IsTypedOp (n : ℕ) (x : OpData) : Type 0 where

@@ -10,11 +10,12 @@ use Rattle.dialect_core.specs.declared.ops.Value.TheVariants.{Result, Argument}
 use Rattle.dialect_core.specs.declared.ops.Successor.{Successor}
 use Rattle.kinds.specs.Rules.{ends}
 use Rattle.kinds.specs.Table.{rule_of}
-use Rattle.kinds.specs.Types.{types_list}
-use Rattle.kinds.specs.Held.{IsShallow, IsHeld, IsHeldResult}
+use Rattle.kinds.specs.Fill.{is_own_fill}
+use Rattle.kinds.specs.Types.{shape, types_list}
+use Rattle.kinds.specs.Held.{width_in, IsShallow, IsHeld, IsHeldResult}
 use Rattle.kinds.specs.Names.{is_good_name, is_own_name}
 use Rattle.dialect_core.specs.Rules.{IsOfKind}
-use Rattle.dialect_core.specs.Data.{Kind, ConstantOp, RowOp, DialectOp, DialectBlock, Func, llvm_name_of, ops_in, value_type}
+use Rattle.dialect_core.specs.Data.{Kind, ConstantOp, FilledOp, RowOp, DialectOp, DialectBlock, Func, llvm_name_of, ops_in, value_type}
 
 -- ---- operations
 
@@ -27,18 +28,27 @@ pub record IsOperand (g : Func) (type : TypeTree) (v : Value) : Type 0 where
 abbrev pub IsHeldValue : Func → Value → Type 0
 IsHeldValue g v = (type : TypeTree) × IsOperand g type v
 
--- an operation of the function g: it keeps the rules of the dialect by the types that g gives its values, and those types
--- are translated
+-- The zero of an integer type is an integer constant of LLVM, of which those of at most 64 bits are translated; of other
+-- operations nothing is asked.
+abbrev pub IsShortKind : Kind → (result : TypeTree) → Type 0
+IsShortKind (ConstantOp value) type = Unit {0}
+IsShortKind (FilledOp fill) type = is_own_fill fill (shape type) ≡ false → width_in type ≤ 64
+IsShortKind (RowOp op) type = Unit {0}
+
+-- an operation of the function g: it keeps the rules of the dialect by the types that g gives its values, those types are
+-- translated, and the zero of an integer type has at most 64 bits
 pub record IsFormOp (g : Func) (o : DialectOp) : Type 0 where
   pub kind : IsOfKind (value_type g) g o.operands o.result o.successors o.kind
   pub operands : All (IsHeldValue g) o.operands
   pub passed : All (λ (s : Successor). All (IsHeldValue g) s.args) o.successors
   pub result : IfSome o.result IsHeld
+  pub short : IfSome o.result (IsShortKind o.kind)
 
 -- ---- functions
 
 abbrev pub is_constant_kind : Kind → Bool
 is_constant_kind (ConstantOp value) = true
+is_constant_kind (FilledOp fill) = true
 is_constant_kind (RowOp op) = false
 
 abbrev pub is_constant : DialectOp → Bool
@@ -46,6 +56,7 @@ is_constant o = is_constant_kind o.kind
 
 abbrev pub is_terminator_kind : Kind → Bool
 is_terminator_kind (ConstantOp value) = false
+is_terminator_kind (FilledOp fill) = false
 is_terminator_kind (RowOp op) = ends (rule_of op).leads
 
 abbrev pub is_terminator : DialectOp → Bool

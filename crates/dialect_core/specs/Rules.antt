@@ -14,7 +14,7 @@ use Rattle.dialect_types.specs.Trees.{IntegerAttr}
 use Rattle.dialect_core.specs.declared.ops.Value.{Value}
 use Rattle.dialect_core.specs.declared.ops.Value.TheVariants.{Argument}
 use Rattle.dialect_core.specs.declared.ops.Successor.{Successor}
-use Rattle.dialect_core.specs.Data.{Kind, ConstantOp, RowOp, DialectBlock, Func}
+use Rattle.dialect_core.specs.Data.{Kind, ConstantOp, FilledOp, RowOp, DialectBlock, Func}
 
 -- ---- constants
 
@@ -95,7 +95,16 @@ pub record IsConstant (type : TypeTree) (value : ℕ) (operands : List Value) (o
   pub bare : operands ≡ []
   pub ends_here : edges ≡ []
 
+-- zero, undef or poison of a type of values
+pub record IsFilled (operands : List Value) (own : Option TypeTree) (edges : List Successor) : Type 0 where
+  pub type : TypeTree
+  pub result : own ≡ Some type
+  pub value : IsFirstClass type
+  pub bare : operands ≡ []
+  pub ends_here : edges ≡ []
+
 -- the operands, the result and the edges of an operation
 abbrev pub IsOfKind : Typing → Func → List Value → Option TypeTree → List Successor → Kind → Type 0
 IsOfKind types g operands own edges (ConstantOp (IntegerAttr type value)) = IsConstant type value operands own edges
+IsOfKind types g operands own edges (FilledOp fill) = IsFilled operands own edges
 IsOfKind types g operands own edges (RowOp op) = IsRow types g op operands own edges

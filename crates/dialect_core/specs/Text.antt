@@ -12,12 +12,14 @@ use Rattle.dialect_core.specs.declared.linkage.LinkageAttr.TheVariants as L
 use Rattle.dialect_core.specs.declared.ops.Value.{Value}
 use Rattle.dialect_core.specs.declared.ops.Value.TheVariants.{Result, Argument}
 use Rattle.dialect_core.specs.declared.ops.Successor.{Successor}
+use Rattle.kinds.specs.declared.fill.Fill.{Fill}
+use Rattle.kinds.specs.declared.fill.Fill.TheVariants as F
 use Rattle.kinds.specs.declared.op.Immediates.{Immediates}
 use Rattle.kinds.specs.declared.op.Immediates.TheVariants as M
 use Rattle.kinds.specs.declared.op.LLVMIntPredicate.{LLVMIntPredicate}
 use Rattle.kinds.specs.declared.op.LLVMIntPredicate.TheVariants as P
 use Rattle.kinds.specs.Table.{immediates_of, op_word}
-use Rattle.dialect_core.specs.Data.{Kind, ConstantOp, RowOp, DialectOp, DialectBlock, Func, DialectModule}
+use Rattle.dialect_core.specs.Data.{Kind, ConstantOp, FilledOp, RowOp, DialectOp, DialectBlock, Func, DialectModule}
 
 -- ---- numbers of values and blocks
 
@@ -100,9 +102,16 @@ linkage_text L.LinkerPrivateLinkage = codes "LinkerPrivateLinkage"
 linkage_text L.LinkerPrivateWeakLinkage = codes "LinkerPrivateWeakLinkage"
 linkage_text L.GhostLinkage = codes "GhostLinkage"
 
+-- the name of the operation that makes zero, undef or poison, a line for each
+abbrev pub fill_word : Fill → List ℕ
+fill_word F.Zero = codes "llvm.zero"
+fill_word F.Undef = codes "llvm.undef"
+fill_word F.Poison = codes "llvm.poison"
+
 -- the name of an operation, a line for each kind
 abbrev pub kind_word : Kind → List ℕ
 kind_word (ConstantOp value) = codes "llvm.constant"
+kind_word (FilledOp fill) = fill_word fill
 kind_word (RowOp op) = op_word op
 
 abbrev pub predicate_text : LLVMIntPredicate → List ℕ
@@ -137,6 +146,7 @@ row_immediates_text (M.NonNegative nneg) = keys_text (flag_key nneg (codes "nneg
 -- its immediates, where it has any
 abbrev pub immediates_text : Kind → List ℕ
 immediates_text (ConstantOp value) = codes " {value = " ++ attr_text value ++ codes "}"
+immediates_text (FilledOp fill) = []
 immediates_text (RowOp op) = row_immediates_text (immediates_of op)
 
 -- `:name` and ` : t`, where there is a name or a type

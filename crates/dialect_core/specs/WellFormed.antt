@@ -19,7 +19,7 @@ use Rattle.kinds.specs.Types.{params_of}
 use Rattle.kinds.specs.Held.{IsFirstClass, IsHeld, IsSignature, IsHeldSignature}
 use Rattle.kinds.specs.Names.{is_good_name, is_own_name}
 use Rattle.dialect_core.specs.Data.{DialectOp, DialectBlock, Func, llvm_name_of, held, data_of, ops_in, type_in}
-use Rattle.dialect_core.specs.Form.{EndsInOnly}
+use Rattle.dialect_core.specs.Form.{EndsInOnly, IsShortKind}
 
 -- ---- operations
 
@@ -166,9 +166,10 @@ pub record IsWellFormed (c : ContextData) (m : ℕ) : Type 0 where
 
 -- ---- what the open form asks besides
 
--- an operation of the form: the type of its result, where it has one, is translated
+-- an operation of the form: the type of its result, where it has one, is translated, and the zero of an integer type has at
+-- most 64 bits
 abbrev pub IsNarrowOp : DialectOp → Type 0
-IsNarrowOp o = IfSome o.result IsHeld
+IsNarrowOp o = IfSome o.result IsHeld × IfSome o.result (IsShortKind o.kind)
 
 -- a block of the form: the types of its arguments are translated
 pub record IsNarrowBlock (b : DialectBlock) : Type 0 where

@@ -3,13 +3,13 @@
 ghost use Rattle.std.specs.Prelude.{◌≡◌, ◌<◌, ◌↔◌, IsTrue, true, All, IfSome, Some, length};
 ghost use Rattle.std.specs.Option.{option_map, option_map_or};
 ghost use Rattle.kinds.specs.Rules.{operand_count};
-ghost use Rattle.kinds.specs.Types.{IntType, VoidType, shape, result_of as returned_by};
+ghost use Rattle.kinds.specs.Types.{TypeTree, IntType, VoidType, shape, result_of as returned_by};
 ghost use Rattle.kinds.specs.Held.{IsFirstClass};
 ghost use Rattle.kinds.specs.Typing.{written_for};
 ghost use Rattle.dialect_types.specs.Trees.{attr_tree, type_at, type_trees, HasTypesBelow};
 ghost use Rattle.dialect_core.specs.ContextData.{IsValueWithin, IsSuccessorWithin, IsSymbol};
 ghost use Rattle.dialect_core.specs.Data.{Func, IsTyped, HasKindTypesBelow, ConstantOp, type_in};
-ghost use Rattle.dialect_core.specs.Rules.{IsFirstClassBy, IsOfKind, IsReturning, IsRow, returns_void, row_fits, row_result, type_nth};
+ghost use Rattle.dialect_core.specs.Rules.{IsFirstClassBy, IsFilled, IsOfKind, IsReturning, IsRow, returns_void, row_fits, row_result, type_nth};
 ghost use Rattle.dialect_core.specs.Checking.{IsConstantOf, IsKindAt, IsOpAt, ends_kind, func_at, tree_at};
 
 use crate::context::Context;
@@ -324,6 +324,30 @@ fn constant_op_fits(
     operands.is_empty() && edges.is_empty() && constant_fits(ctx.types(), value, own)
 }
 
+/// Whether an operation has a result of a first class type.
+fn is_first_class_some(types: &TypeStore, own: Option<TypeHandle>) -> bool
+    requires { IfSome own (λ t. t.0 < length types.now) }
+    ensures { IsTrue result ↔ ((t : TypeTree) × (option_map (type_at (type_trees types.now)) own ≡ Some t) × IsFirstClass t) }
+{
+    match own {
+        Some(ty) => is_first_class(types, ty),
+        None => false,
+    }
+}
+
+/// Whether an `llvm.zero`, `llvm.undef` or `llvm.poison` is as its kind is.
+fn filled_op_fits(
+    ctx: &Context,
+    operands: &[Value],
+    own: Option<TypeHandle>,
+    edges: &[Successor],
+) -> bool
+    requires own { IfSome own (λ t. t.0 < length ctx.now.types) }
+    ensures { IsTrue result ↔ IsFilled operands.now (option_map (tree_at ctx.now) own) edges.now }
+{
+    operands.is_empty() && edges.is_empty() && is_first_class_some(ctx.types(), own)
+}
+
 /// Whether an operation is as its kind is.
 fn kind_fits(
     ctx: &Context,
@@ -345,6 +369,7 @@ fn kind_fits(
     match kind {
         OpKind::Module | OpKind::Func => false,
         OpKind::Constant(value) => constant_op_fits(ctx, value, operands, own, edges),
+        OpKind::Filled(_fill) => filled_op_fits(ctx, operands, own, edges),
         OpKind::Row(op) => row_fits(ctx, func, *op, operands, own, edges),
     }
 }
@@ -371,6 +396,7 @@ pub fn is_ending(kind: &OpKind) -> bool
         OpKind::Module => false,
         OpKind::Func => false,
         OpKind::Constant(_) => false,
+        OpKind::Filled(_) => false,
         OpKind::Row(op) => op.rule().leads.ends(),
     }
 }

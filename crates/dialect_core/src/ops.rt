@@ -7,6 +7,7 @@ use crate::numbers::{BlockRef, OpRef};
 use dialect_types::attrs::ConstAttr;
 use dialect_types::identifier::Identifier;
 use dialect_types::types::TypeHandle;
+use kinds::fill::Fill;
 use kinds::op::Op;
 use std::alloc::{AllocError, Global};
 use std::marker::Model;
@@ -39,6 +40,8 @@ pub enum OpKind {
     Func,
     /// `llvm.constant`, with its `value`.
     Constant(ConstAttr),
+    /// `llvm.zero`, `llvm.undef` or `llvm.poison`, of the type of its result.
+    Filled(Fill),
     /// The operation of a row of the table, with its immediates.
     Row(Op),
 }

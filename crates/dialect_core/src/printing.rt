@@ -6,7 +6,7 @@ ghost use Rattle.dialect_types.specs.Trees.{TypeTree, attr_tree, type_at, type_t
 ghost use Rattle.dialect_types.specs.Text.{Keeps};
 ghost use Rattle.dialect_core.specs.Data.{ConstantOp, HasKindTypesBelow, kind_of, op_of, IsTypedOp};
 ghost use Rattle.dialect_core.specs.Numbering.{value_at, block_at};
-ghost use Rattle.dialect_core.specs.Text.{option_text, number_text, colon_text, value_text, block_name_text, values_text, successor_text, successors_text, gives_text, head_text, immediates_text, row_immediates_text, predicate_text, result_type_text, tail_text, kind_word, op_text};
+ghost use Rattle.dialect_core.specs.Text.{option_text, number_text, colon_text, value_text, block_name_text, values_text, successor_text, successors_text, gives_text, head_text, immediates_text, row_immediates_text, predicate_text, result_type_text, tail_text, fill_word, kind_word, op_text};
 ghost use Rattle.kinds.specs.declared.op.Immediates.TheVariants as sorts;
 
 use crate::numbering::Numbering;
@@ -17,6 +17,7 @@ use dialect_types::identifier::Identifier;
 use dialect_types::printing::{print_comma_before, print_number};
 use dialect_types::type_store::TypeStore;
 use dialect_types::types::TypeHandle;
+use kinds::fill::Fill;
 use kinds::op::{Immediates, LLVMIntPredicate, OverflowFlags};
 use std::alloc::AllocError;
 
@@ -244,6 +245,17 @@ fn print_tail(
     out.extend_from_slice(b"\n")
 }
 
+/// The word of the operation that makes zero, undef or poison.
+fn fill_word(fill: Fill) -> &'static [u8]
+    ensures { result.now ≡ fill_word fill }
+{
+    match fill {
+        Fill::Zero => b"llvm.zero",
+        Fill::Undef => b"llvm.undef",
+        Fill::Poison => b"llvm.poison",
+    }
+}
+
 /// The word of a kind, none for a module and a function.
 fn word_of(kind: &OpKind) -> Option<&'static [u8]>
     ensures { (ts : List TypeTree) → option_copied result ≡ option_map kind_word (kind_of ts kind.now) }
@@ -251,6 +263,7 @@ fn word_of(kind: &OpKind) -> Option<&'static [u8]>
     match kind {
         OpKind::Module | OpKind::Func => None,
         OpKind::Constant(_) => Some(b"llvm.constant"),
+        OpKind::Filled(fill) => Some(fill_word(*fill)),
         OpKind::Row(op) => Some(op.word()),
     }
 }
@@ -278,6 +291,7 @@ fn print_immediates(types: &TypeStore, kind: &OpKind, out: &mut Vec<u8>) -> Resu
     match kind {
         OpKind::Constant(value) => print_constant_immediates(types, value, out),
         OpKind::Row(op) => print_row_immediates(op.immediates(), out),
+        OpKind::Filled(_) => Ok(()),
         OpKind::Module | OpKind::Func => Ok(()),
     }
 }

@@ -23,7 +23,7 @@ fn result_of(ctx: &Context, op: OpRef) -> Option<TypeHandle>
 {
     match ctx.op_kind(op) {
         OpKind::Module | OpKind::Func => None,
-        OpKind::Constant(_) | OpKind::Row(_) => ctx.result_type(op),
+        OpKind::Constant(_) | OpKind::Filled(_) | OpKind::Row(_) => ctx.result_type(op),
     }
 }
 

@@ -103,7 +103,7 @@ pub known_pushed : (m : Module) (old new : Values) (uses : List ConstTree) (fr :
     → IsKnown m new uses (knows fr cs os (ps ++ p ∷ []) (ws ++ to ∷ [])) n' at args'
 known_pushed m old new uses fr cs os ps ws n n' at args args' i p to number fresh le le' h noted younger not_old = record {
   made = h.made;
-  short = h.short;
+  consts = h.consts;
   first_uses = h.first_uses;
   long = (let a = length-push ws to in let b = length-push ps p in let c = h.long in omega (arith, a, b, c));
   notes = result_noted m fr old new cs os ps ws i p to number h.long fresh h.notes noted;
@@ -246,7 +246,7 @@ filled fr m c values j x b le h =
       bare = λ i y at_y. h.bare i y at_y ∙ ap (λ (n : ℕ). front_for n h.hoisted) (let e : ℕ.suc (j + i) ≡ (j + 1) + i = omega arith in e);
       known = subst (λ (ps : List Placed). IsKnown m values (all_uses m fr) (knows fr h.constants h.hoisted ps h.done) (length c.ops) (fr.base + (j + 1)) 0) sources (record {
         made = h.known.made;
-        short = h.known.short;
+        consts = h.known.consts;
         first_uses = h.known.first_uses;
         long = h.known.long;
         notes = h.known.notes;

@@ -1,59 +1,99 @@
--- Constants of the source and the operations that make them.
-use Rattle.std.proofs.Common.{ℕ, ◌≡◌, ◌<◌, ◌≤◌, ◌^◌, refl, sym, ap, subst, ◌∙◌, List, [], Some, None, slice_get, arith}
+-- Constants of the source, their types, and the operations that make them.
+use Rattle.std.proofs.Common.{ℕ, suc, ◌≡◌, ◌<◌, ◌≤◌, ◌+◌, ◌++◌, ◌^◌, refl, sym, ap, subst, ◌∙◌, List, Some, None, [], length, map, slice_get, arith}
+use Rattle.std.specs.List.{flat_map}
 use Rattle.std.proofs.Math.Nat.{pow-le-pow_right}
+use Rattle.support.proofs.ListLaws.{slice_get-behind}
+use Rattle.support.proofs.OptionLaws.{part_of}
 use Rattle.llvm_core.specs.declared.numbers.LLVMType.{LLVMType}
 use Rattle.llvm_core.specs.declared.numbers.LLVMConst.{LLVMConst}
-use Rattle.llvm_core.specs.declared.consts.LLVMConstKind.{LLVMConstKind}
 use Rattle.llvm_core.specs.declared.consts.LLVMConstKind.TheVariants as C
+use Rattle.llvm_core.specs.declared.code.LLVMValue.TheVariants as V
 use Rattle.llvm_core.specs.Module.{Module}
+use Rattle.llvm_core.specs.Parts as parts
 use Rattle.llvm_core.specs.Sound.{IsModule}
-use Rattle.llvm_core.specs.Form.{IsShortConst}
-use Rattle.llvm_core.specs.Data.{ConstTree, IntConst, trees_of, type_at, const_at}
-use Rattle.llvm_core.proofs.DataLemmas.{int_tree_of, int_const_of, placeholder_const_of}
-use Rattle.kinds.specs.Held.{width_in, IsHeldResult}
+use Rattle.llvm_core.specs.Form.{IsFormConst, IsHeldFunction, constant_type, constant_types, operands_of, value_types}
+use Rattle.llvm_core.specs.Data as L
+use Rattle.llvm_core.specs.Data.{ConstTree, IntConst, FilledConst, Placed, Function, trees_of, type_at, const_at, const_type, placed_in}
+use Rattle.llvm_core.proofs.DataLemmas.{within_at, int_const_of, filled_const_of, placeholder_const_of, const_type_of}
+use Rattle.kinds.specs.declared.fill.Fill.{Fill}
+use Rattle.kinds.specs.Held.{width_in, IsFirstClass, IsHeldResult}
+use Rattle.kinds.specs.Types.{params_of}
 use Rattle.kinds.specs.Structs.{Struct}
-use Rattle.kinds.proofs.HeldLaws.{held_result_if, int_held}
-use Rattle.dialect_types.specs.Trees.{TypeTree, IntType, IntegerAttr}
-use Rattle.dialect_core.specs.Data.{ConstantOp}
+use Rattle.dialect_types.specs.declared.types.TypeHandle.{TypeHandle}
+use Rattle.dialect_types.specs.declared.attrs.ConstAttr.TheVariants as A
+use Rattle.dialect_types.specs.Trees as trees
+use Rattle.dialect_types.specs.Trees.{TypeTree, IntegerAttr}
+use Rattle.dialect_core.specs.declared.ops.OpKind.TheVariants as K
+use Rattle.dialect_core.specs.Data.{ConstantOp, FilledOp}
 use Rattle.from_llvm_ir.specs.Building.{new_op}
-use Rattle.from_llvm_ir.specs.Known.{IsConstantOp}
-use Rattle.from_llvm_ir.specs.Types.{NamesAmong}
-use Rattle.from_llvm_ir.proofs.FoundLaws.{int_among}
+use Rattle.from_llvm_ir.specs.Known.{IsHeldConst, IsMaking}
+use Rattle.from_llvm_ir.specs.Source.{IsListed, IsUsable}
+use Rattle.from_llvm_ir.specs.Types.{IsReadyFor, NamesAmong}
+use Rattle.from_llvm_ir.proofs.HeldLaws.{held_value_type}
+use Rattle.from_llvm_ir.proofs.PlaceLaws.{flat_at}
 
--- an integer is of an integer type, whose width is its own
-int_typed : (m : Module) (c : LLVMConst) (t : LLVMType) (v : ℕ) → IsModule m → slice_get m.consts c.0 ≡ Some (C.Int t v) → (w : ℕ) × (type_at (trees_of m).types t ≡ IntType w) × (const_at (trees_of m).consts c ≡ IntConst w v)
-int_typed m c t v sound at =
-    let over = sound.consts c.0 (C.Int t v) at in
-    let is : type_at (trees_of m).types t ≡ IntType over.0 = int_tree_of m t over.0 sound over.1 in
-    (over.0, is, int_const_of m c t v at ∙ ap (λ (x : TypeTree). IntConst (width_in x) v) is)
+-- ---- the kinds of their operations
 
--- the type of a short constant is translated, and its value fits a word
-pub const_held : (m : Module) (c : LLVMConst) (t : LLVMType) (v : ℕ) → IsModule m → slice_get m.consts c.0 ≡ Some (C.Int t v) → IsShortConst (const_at (trees_of m).consts c) → IsHeldResult (type_at (trees_of m).types t)
-const_held m c t v sound at h =
-    let p = int_typed m c t v sound at in
-    let short = subst IsShortConst p.2 h in
-    subst IsHeldResult (sym p.1) (held_result_if (IntType p.0) (int_held p.0 short.0.0 (omega (arith, short.0.1))))
-
--- whose type names no struct
-pub const_among : (structs : List Struct) (m : Module) (c : LLVMConst) (t : LLVMType) (v : ℕ) → IsModule m → slice_get m.consts c.0 ≡ Some (C.Int t v) → NamesAmong structs (type_at (trees_of m).types t)
-const_among structs m c t v sound at = let p = int_typed m c t v sound at in subst (NamesAmong structs) (sym p.1) (int_among structs p.0)
-
-pub const_fits : (m : Module) (c : LLVMConst) (t : LLVMType) (v : ℕ) → slice_get m.consts c.0 ≡ Some (C.Int t v) → IsShortConst (const_at (trees_of m).consts c) → v < 2 ^ 64
+-- an integer fits a word
+pub const_fits : (m : Module) (c : LLVMConst) (t : LLVMType) (v : ℕ) → slice_get m.consts c.0 ≡ Some (C.Int t v) → IsFormConst (const_at (trees_of m).consts c) → v < 2 ^ 64
 const_fits m c t v at h =
     let w = width_in (type_at (trees_of m).types t) in
-    let short = subst IsShortConst (int_const_of m c t v at) h in
+    let short = subst IsFormConst (int_const_of m c t v at) h in
     let bound : 2 ^ w ≤ 2 ^ 64 = pow-le-pow_right {n = 2} (omega arith) {i = w} {j = 64} short.0.1 in
     omega (arith, short.1, bound)
 
--- the operation with its value makes it
-pub const_made : (m : Module) (c : LLVMConst) (t : LLVMType) (v n : ℕ) (ty : TypeTree) → IsModule m → slice_get m.consts c.0 ≡ Some (C.Int t v) → ty ≡ type_at (trees_of m).types t
-    → IsConstantOp (const_at (trees_of m).consts c) (new_op n None (ConstantOp (IntegerAttr ty v)) [] [] (Some ty))
-const_made m c t v n ty sound at is =
-    let p = int_typed m c t v sound at in
-    subst (λ (x : ConstTree). IsConstantOp x (new_op n None (ConstantOp (IntegerAttr ty v)) [] [] (Some ty))) (sym p.2)
-    (ap (λ (x : TypeTree). new_op n None (ConstantOp (IntegerAttr x v)) [] [] (Some x)) (is ∙ p.1))
+int_making : (w v : ℕ) (ty : TypeHandle) → IsMaking (IntConst w v) ty (K.Constant (A.Integer ty v))
+int_making w v ty = record {
+  plain = refl;
+  types = λ n below. below;
+  makes = λ ts is. (ConstantOp (IntegerAttr (trees.type_at ts ty) v), refl, λ n. ap (λ (x : TypeTree). new_op n None (ConstantOp (IntegerAttr x v)) [] [] (Some x)) is);
+}
 
--- a short constant is an integer
-pub short_kind : (m : Module) (c : LLVMConst) (k : LLVMConstKind) → slice_get m.consts c.0 ≡ Some k → IsShortConst (const_at (trees_of m).consts c) → (t : LLVMType) × (v : ℕ) × (k ≡ C.Int t v)
-short_kind m c (C.Int t v) at h = (t, v, refl)
-short_kind m c (C.Placeholder n t) at h = absurd (subst IsShortConst (placeholder_const_of m c n t at) h)
+filled_making : (fill : Fill) (t : TypeTree) (ty : TypeHandle) → IsMaking (FilledConst fill t) ty (K.Filled fill)
+filled_making fill t ty = record {
+  plain = refl;
+  types = λ n below. tt;
+  makes = λ ts is. (FilledOp fill, refl, λ n. ap (λ (x : TypeTree). new_op n None (FilledOp fill) [] [] (Some x)) is);
+}
+
+pub int_made : (m : Module) (c : LLVMConst) (t : LLVMType) (v : ℕ) (ty : TypeHandle) → slice_get m.consts c.0 ≡ Some (C.Int t v) → IsMaking (const_at (trees_of m).consts c) ty (K.Constant (A.Integer ty v))
+int_made m c t v ty at = subst (λ (x : ConstTree). IsMaking x ty (K.Constant (A.Integer ty v))) (sym (int_const_of m c t v at)) (int_making (width_in (type_at (trees_of m).types t)) v ty)
+
+pub filled_made : (m : Module) (c : LLVMConst) (fill : Fill) (t : LLVMType) (ty : TypeHandle) → slice_get m.consts c.0 ≡ Some (C.Filled fill t) → IsMaking (const_at (trees_of m).consts c) ty (K.Filled fill)
+filled_made m c fill t ty at = subst (λ (x : ConstTree). IsMaking x ty (K.Filled fill)) (sym (filled_const_of m c fill t at)) (filled_making fill (type_at (trees_of m).types t) ty)
+
+-- a constant of the form is no placeholder
+pub no_placeholder : (m : Module) (c : LLVMConst) (n : ℕ) (t : LLVMType) → slice_get m.consts c.0 ≡ Some (C.Placeholder n t) → IsFormConst (const_at (trees_of m).consts c) → ⊥
+no_placeholder m c n t at h = subst IsFormConst (placeholder_const_of m c n t at) h
+
+-- ---- their types
+
+-- the type that is read of a constant
+pub const_typed : (m : Module) (c : LLVMConst) (ty : LLVMType) → IsModule m → parts.value_type m (V.Const c) ≡ Some ty → type_at (trees_of m).types ty ≡ const_type (const_at (trees_of m).consts c)
+const_typed m c ty sound has =
+    let x = part_of parts.const_type (slice_get m.consts c.0) ty has in
+    ap (type_at (trees_of m).types) (sym x.1.1) ∙ sym (const_type_of m c x.0 sound x.1.0)
+
+-- that of one that a function uses is among the types of its values
+constant_value : (g : Function) (c : ConstTree) → IsListed g (L.Constant c) → (k : ℕ) × (slice_get (value_types g) k ≡ Some (const_type c))
+constant_value g c l =
+    let results = map (λ (p : Placed). p.type) (placed_in g) in
+    let constants = flat_map constant_types (placed_in g) in
+    let of_user = flat_at constant_type (operands_of l.user.instruction) l.place (L.Constant c) 0 (const_type c) l.here refl in
+    let at = flat_at constant_types (placed_in g) l.index l.user of_user.0 (const_type c) l.there of_user.1 in (
+      suc (length (params_of g.type ++ results) + at.0),
+      slice_get-behind (params_of g.type ++ results) constants at.0 ∙ at.1,
+    )
+
+-- so it is translated
+pub constant_held : (g : Function) (c : ConstTree) → IsHeldFunction g → IsUsable g (L.Constant c) → IsListed g (L.Constant c) → IsHeldConst c
+constant_held g c held u l =
+    let k = constant_value g c l in
+    record {
+      form = u.1.stands;
+      held = held_value_type (const_type c) (within_at (value_types g) IsHeldResult held k.0 (const_type c) k.1) (subst IsFirstClass (sym u.1.typed) u.1.first_class);
+    }
+
+-- and the structs that it names are there
+pub constant_ready : (g : Function) (c : ConstTree) (structs : List Struct) → IsReadyFor g structs → IsListed g (L.Constant c) → NamesAmong structs (const_type c)
+constant_ready g c structs ready l = let k = constant_value g c l in within_at (value_types g) (NamesAmong structs) ready k.0 (const_type c) k.1

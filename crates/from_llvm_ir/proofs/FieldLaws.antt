@@ -27,7 +27,7 @@ use Rattle.llvm_core.specs.declared.structs.StructData.{StructData}
 use Rattle.llvm_core.specs.Module.{Module}
 use Rattle.llvm_core.specs.Data as L
 use Rattle.llvm_core.specs.Data.{ModuleData, trees_of}
-use Rattle.llvm_core.specs.Form.{IsForm, types_in}
+use Rattle.llvm_core.specs.Form.{IsForm, constant_types, types_in}
 use Rattle.llvm_core.proofs.DataLemmas.{within_at}
 use Rattle.dialect_types.specs.declared.types.TypeHandle.{TypeHandle}
 use Rattle.dialect_types.specs.declared.types.TypeKind.{TypeKind}
@@ -75,7 +75,8 @@ module _ (d : ModuleData) (form : IsForm d) (taken : AreHeld d) where
       let fs = map (λ (f : L.Function). f.type) d.functions in
       let ps = map (λ (p : L.Placed). p.type) (flat_map L.placed_in d.functions) in
       let here = slice_get-map (λ (s : Struct). NamedType s.name) d.structs k ∙ ap (option_map (λ (s : Struct). NamedType s.name)) at in
-      within_at (types_in d) (IsNested d.structs) form.nested k (NamedType s.name) (slice_get-kept (named_types ++ fs) ps k (NamedType s.name) (slice_get-kept named_types fs k (NamedType s.name) here))
+      within_at (types_in d) (IsNested d.structs) form.nested k (NamedType s.name)
+      (slice_get-kept (named_types ++ fs ++ ps) (flat_map constant_types (flat_map L.placed_in d.functions)) k (NamedType s.name) (slice_get-kept (named_types ++ fs) ps k (NamedType s.name) (slice_get-kept named_types fs k (NamedType s.name) here)))
 
   module _ (k : ℕ) (s : Struct) (b : StructBody) (at : slice_get d.structs k ≡ Some s) (first : struct_in d.structs s.name ≡ Some s) (has : s.body ≡ Some b) (used : HasTypeWith d (NamedType s.name)) where
     -- a type for which the dialect has none, held by a field, would be held by a value

@@ -1,5 +1,5 @@
 -- A whole function is of the dialect's form, and nothing of it is refused by an export.
-use Rattle.std.proofs.Common.{ℕ, zero, suc, ◌≡◌, inl, inr, refl, sym, ap, subst, ◌∙◌, true, false, not, List, [], ◌∷◌, ◌++◌, Option, Some, All, length, take, slice_get, arith}
+use Rattle.std.proofs.Common.{ℕ, zero, suc, ◌≡◌, inl, inr, refl, sym, ap, subst, ◌∙◌, true, false, not, List, [], ◌∷◌, ◌++◌, Option, Some, None, All, length, take, slice_get, arith}
 use Rattle.std.specs.Prelude.{IfSome}
 use Rattle.std.proofs.lemmas.List.{append_assoc}
 use Rattle.std.proofs.lemmas.Option.{same_Some}
@@ -8,16 +8,16 @@ use Rattle.meaning.proofs.MatchedLaws.{matched_length, matched_at}
 use Rattle.support.proofs.ListLaws.{all_from, filter_from}
 use Rattle.llvm_core.specs.Form as LF
 use Rattle.llvm_core.specs.Data as L
-use Rattle.llvm_core.specs.Data.{ConstTree, IntConst, PlaceholderConst, Placed, targets}
+use Rattle.llvm_core.specs.Data.{ConstTree, IntConst, FilledConst, PlaceholderConst, Placed, const_type, targets}
 use Rattle.dialect_types.specs.Trees.{TypeTree}
 use Rattle.dialect_core.specs.declared.ops.Value.{Value}
 use Rattle.dialect_core.specs.declared.ops.Successor.{Successor}
 use Rattle.kinds.specs.declared.rules.Takes.{Takes}
 use Rattle.kinds.specs.declared.rules.Takes.TheVariants as O
 use Rattle.kinds.specs.Types.{result_of, params_of}
-use Rattle.kinds.specs.Held.{IsFirstClass, IsReturned, IsHeld, own_type}
+use Rattle.kinds.specs.Held.{IsFirstClass, IsReturned, IsHeld, IsHeldResult, own_type}
 use Rattle.kinds.specs.Table.{rule_of}
-use Rattle.kinds.proofs.HeldLaws.{first_class_own, returned_own, held_result_own, int_held}
+use Rattle.kinds.proofs.HeldLaws.{first_class_own, returned_own, held_first_class, held_result_if, held_result_own}
 use Rattle.dialect_core.specs.Rules as R
 use Rattle.dialect_core.specs.Form as DF
 use Rattle.dialect_core.specs.Data.{DialectOp, DialectBlock, Func, Kind, llvm_name_of, value_type}
@@ -25,7 +25,7 @@ use Rattle.meaning.specs.Pairs.{Matched}
 use Rattle.kinds.specs.Names.{is_good_name, is_own_name}
 use Rattle.from_llvm_ir.specs.Imported.{rest_of, phis_of, front_for}
 use Rattle.from_llvm_ir.specs.Source.{IsUsable}
-use Rattle.from_llvm_ir.specs.Known.{Known, Stands, IsConstantOp, blocks_of}
+use Rattle.from_llvm_ir.specs.Known.{Known, Stands, IsConstantOp, IsHeldConst, blocks_of}
 use Rattle.from_llvm_ir.specs.Converted.{IsKind, IsEdge, IsRow, IsConverted}
 use Rattle.from_llvm_ir.proofs.ListLaws.{other_there}
 use Rattle.from_llvm_ir.proofs.RowLaws.{HaveTypes, if_own, first_class, all_typed, values_fit, values_give}
@@ -45,7 +45,14 @@ kind_tests (L.Applied r) κ h = (ap DF.is_constant_kind h, ap DF.is_terminator_k
 
 pub constant_tests : (c : ConstTree) (o : DialectOp) → IsConstantOp c o → (DF.is_constant o ≡ true) × (DF.is_terminator o ≡ false) × (o.successors ≡ []) × (o.operands ≡ [])
 constant_tests (IntConst w v) o h = (ap DF.is_constant h, ap DF.is_terminator h, ap (λ (x : DialectOp). x.successors) h, ap (λ (x : DialectOp). x.operands) h)
+constant_tests (FilledConst fill t) o h = (ap DF.is_constant h, ap DF.is_terminator h, ap (λ (x : DialectOp). x.successors) h, ap (λ (x : DialectOp). x.operands) h)
 constant_tests (PlaceholderConst n t) o h = elim h [ ]
+
+-- of the width of what a row gives nothing is asked
+kind_short : (i : L.Instruction) (κ : Kind) (own : Option TypeTree) → IsKind i κ → IfSome own (DF.IsShortKind κ)
+kind_short (L.Phi es) κ own h = elim h [ ]
+kind_short (L.Applied r) κ None h = tt
+kind_short (L.Applied r) κ (Some t) h = subst (λ (x : Kind). DF.IsShortKind x t) (sym h) tt
 
 -- a terminator is no phi
 ends_kept : (p : Placed) → LF.is_last p ≡ true → not (LF.is_phi p) ≡ true
@@ -67,17 +74,29 @@ module _ (n : Head) (k : Known) (cs : List DialectBlock) (h : IsWhole k cs) wher
 
   -- ---- operations
 
-  constant_form : (c : ConstTree) (o : DialectOp) → LF.IsShortConst c → IsConstantOp c o → DF.IsFormOp G o
+  constant_form : (c : ConstTree) (o : DialectOp) → IsHeldConst c → IsConstantOp c o → DF.IsFormOp G o
   constant_form (IntConst w v) o s m = subst (DF.IsFormOp G) (sym m) (record {
-    kind = record { integer = (w, refl, s.0, s.1); result = refl; bare = refl; ends_here = refl };
+    kind = record { integer = (w, refl, s.form.0, s.form.1); result = refl; bare = refl; ends_here = refl };
     operands = All-nil _;
     passed = All-nil _;
-    result = int_held w s.0.0 (omega (arith, s.0.1));
+    result = s.held;
+    short = tt;
+  })
+  constant_form (FilledConst fill t) o s m = subst (DF.IsFormOp G) (sym m) (record {
+    kind = record { type = t; result = refl; value = held_first_class t s.held; bare = refl; ends_here = refl };
+    operands = All-nil _;
+    passed = All-nil _;
+    result = s.held;
+    short = λ other. absurd (let no : ⊥ = cc (s.form, other) in no);
   })
   constant_form (PlaceholderConst q t) o s m = elim m [ ]
 
+  -- a constant that has an operation is of a type that is translated
+  known_held : (o : L.Operand) (w : Value) → Stands k o w → (c : ConstTree) → o ≡ L.Constant c → IsHeldResult (const_type c)
+  known_held o w st c is = let s = subst (λ (x : L.Operand). Stands k x w) is st in held_result_if (const_type c) (h.consts s.place c s.here).held
+
   value_form : (o : L.Operand) (w : Value) → Stands k o w → IsUsable g o → DF.IsHeldValue G w
-  value_form o w st f = (f.0, record { typed = operand_typed n k cs h f.0 o w st f.1; held = operand_held g h.form h.held f.0 o f.1 })
+  value_form o w st f = (f.0, record { typed = operand_typed n k cs h f.0 o w st f.1; held = operand_held g h.form h.held f.0 o (known_held o w st) f.1 })
 
   values_form : (os : List L.Operand) (ws : List Value) → ((j : ℕ) (o : L.Operand) → slice_get os j ≡ Some o → IsUsable g o) → Matched (Stands k) os ws → All (DF.IsHeldValue G) ws
   values_form [] [] f m = All-nil _
@@ -145,11 +164,12 @@ module _ (n : Head) (k : Known) (cs : List DialectBlock) (h : IsWhole k cs) wher
         operands = values_form (LF.operands_of r.inst.instruction) o.operands (operands_usable g h.form r.block.number r.inst f r.other) v.operands;
         passed = all_from (λ (s : Successor). All (DF.IsHeldValue G) s.args) o.successors (λ y s at. let e = edge y s at in passed_form r.block.number e.0 s e.1);
         result = subst (λ (x : Option TypeTree). IfSome x IsHeld) (sym v.result) (if_own IsHeld r.inst.type (held_result_own r.inst.type (result_held_at g h.held r.source r.block r.place r.inst r.at r.there)));
+        short = kind_short r.inst.instruction o.kind o.result v.kind;
       }
 
   op_form : (j y : ℕ) (c : DialectBlock) (o : DialectOp) → slice_get cs j ≡ Some c → slice_get c.ops y ≡ Some o → DF.IsFormOp G o
   op_form j y c o at here = elim (op_cases k cs h j y c o at here) [
-    | inl a ↦ constant_form a.constant o (h.short y a.constant a.here) a.makes
+    | inl a ↦ constant_form a.constant o (h.consts y a.constant a.here) a.makes
     | inr r ↦ row_form j c o r
   ]
 

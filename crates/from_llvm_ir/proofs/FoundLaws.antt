@@ -1,5 +1,6 @@
 -- Structs that types name, and that are found.
-use Rattle.std.proofs.Common.{ℕ, ◌≡◌, ◌+◌, ◌∙◌, refl, sym, ap, subst, Bool, true, false, if◌then◌else◌, List, [], ◌∷◌, Some, None, All, map, length, slice_get}
+use Rattle.std.proofs.Common.{ℕ, ◌≡◌, ◌+◌, ◌++◌, ◌∙◌, refl, sym, ap, subst, Bool, true, false, if◌then◌else◌, List, [], ◌∷◌, Some, None, All, map, length, slice_get}
+use Rattle.std.specs.List.{flat_map}
 use Rattle.std.specs.Option.{option_map}
 use Rattle.std.specs.Str.{bytes_eq}
 use Rattle.std.proofs.lemmas.Slice.Eq.{bytes_eq-Decides}
@@ -8,7 +9,7 @@ use Rattle.std.proofs.lemmas.List.Elements.{All-head, All-tail}
 use Rattle.support.proofs.ListLaws.{all_from, slice_get-behind, slice_get-kept}
 use Rattle.kinds.specs.declared.types.VectorTypeKind.{VectorTypeKind}
 use Rattle.kinds.specs.declared.types.StructLayout.{StructLayout}
-use Rattle.kinds.specs.Types.{TypeTree, IntType, ArrayType, VectorType, StructType, NamedType, parts_of, params_of, result_of}
+use Rattle.kinds.specs.Types.{TypeTree, ArrayType, VectorType, StructType, NamedType, parts_of, params_of, result_of}
 use Rattle.kinds.specs.Structs.{Struct, Holds, Itself, InPart, InField, renamed, struct_in}
 use Rattle.llvm_core.specs.declared.numbers.LLVMFunction.{LLVMFunction}
 use Rattle.llvm_core.specs.declared.numbers.LLVMType.{LLVMType}
@@ -18,7 +19,7 @@ use Rattle.llvm_core.specs.Module.{Module}
 use Rattle.llvm_core.specs.Sound.{IsModule}
 use Rattle.llvm_core.specs.Data as L
 use Rattle.llvm_core.specs.Data.{ModuleData, Placed, trees_of, placed_in}
-use Rattle.llvm_core.specs.Form.{value_types}
+use Rattle.llvm_core.specs.Form.{constant_types, value_types}
 use Rattle.llvm_core.proofs.DataLemmas.{type_tree_of, within_at}
 use Rattle.dialect_types.specs.Names.{IsIdentifier}
 use Rattle.meaning.specs.Renamed.{renamed_function}
@@ -45,10 +46,6 @@ held_itself structs u _ (InField name s b v i is has at h) = absurd (let no : No
 module _ (structs : List Struct) where
   part_among : (t v : TypeTree) (i : ℕ) → slice_get (parts_of t) i ≡ Some v → NamesAmong structs t → NamesAmong structs v
   part_among t v i at all name h = all name (InPart t v i at h)
-
-  -- an integer names none
-  pub int_among : (w : ℕ) → NamesAmong structs (IntType w)
-  int_among w name (InPart t v i at h) = cc
 
   -- the parts of a type name what it names: a line for each kind that has parts
   module _ (m : Module) (sound : IsModule m) (ty : LLVMType) (k : LLVMTypeKind) (at : slice_get m.types ty.0 ≡ Some k) (all : NamesAmong structs (L.type_at (trees_of m).types ty)) where
@@ -95,13 +92,17 @@ pub result_ready : (g : L.Function) (structs : List Struct) → IsReadyFor g str
 result_ready g structs ready = within_at (value_types g) (NamesAmong structs) ready 0 (result_of g.type) refl
 
 pub params_ready : (g : L.Function) (structs : List Struct) → IsReadyFor g structs → (i : ℕ) (t : TypeTree) → slice_get (params_of g.type) i ≡ Some t → NamesAmong structs t
-params_ready g structs ready i t at = within_at (value_types g) (NamesAmong structs) ready (ℕ.suc i) t (slice_get-kept (params_of g.type) (map (λ (p : Placed). p.type) (placed_in g)) i t at)
+params_ready g structs ready i t at =
+    let results = map (λ (p : Placed). p.type) (placed_in g) in
+    within_at (value_types g) (NamesAmong structs) ready (ℕ.suc i) t (slice_get-kept (params_of g.type ++ results) (flat_map constant_types (placed_in g)) i t (slice_get-kept (params_of g.type) results i t at))
 
 pub placed_ready : (g : L.Function) (structs : List Struct) → IsReadyFor g structs → (i : ℕ) (p : Placed) → slice_get (placed_in g) i ≡ Some p → NamesAmong structs p.type
 placed_ready g structs ready i p at =
     let results = map (λ (p : Placed). p.type) (placed_in g) in
+    let constants = flat_map constant_types (placed_in g) in
     let here = slice_get-map (λ (p : Placed). p.type) (placed_in g) i ∙ ap (option_map (λ (p : Placed). p.type)) at in
-    within_at (value_types g) (NamesAmong structs) ready (ℕ.suc (length (params_of g.type) + i)) p.type (slice_get-behind (params_of g.type) results i ∙ here)
+    within_at (value_types g) (NamesAmong structs) ready (ℕ.suc (length (params_of g.type) + i)) p.type
+    (slice_get-kept (params_of g.type ++ results) constants (length (params_of g.type) + i) p.type (slice_get-behind (params_of g.type) results i ∙ here))
 
 pub inst_ready : (g : L.Function) (structs : List Struct) → IsReadyFor g structs → (place : ℕ) (b : L.Block) (at : ℕ) (p : Placed) → slice_get g.blocks place ≡ Some b → slice_get b.instructions at ≡ Some p → NamesAmong structs p.type
 inst_ready g structs ready place b at p here there =

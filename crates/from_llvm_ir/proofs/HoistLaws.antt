@@ -6,13 +6,14 @@ use Rattle.std.proofs.lemmas.List.Concat.{flat_map-append}
 use Rattle.std.proofs.lemmas.List.{append-nil, append_assoc}
 use Rattle.std.proofs.lemmas.List.Elements.{filter-append, filter_map-append}
 use Rattle.std.proofs.lemmas.Option.{none-some}
+use Rattle.dialect_types.specs.Trees.{structs_of}
 use Rattle.dialect_types.proofs.TreeLemmas.{push_cases}
 use Rattle.meaning.proofs.MatchedLaws.{matched_length, matched_push}
 use Rattle.support.proofs.ListLaws.{all_from, slice_get-kept, take_next}
 use Rattle.llvm_core.specs.declared.numbers.LLVMConst.{LLVMConst}
 use Rattle.llvm_core.specs.declared.code.LLVMValue.TheVariants as K
 use Rattle.llvm_core.specs.Module.{Module}
-use Rattle.llvm_core.specs.Form.{IsShortConst, is_phi}
+use Rattle.llvm_core.specs.Form.{is_phi}
 use Rattle.llvm_core.specs.Data as L
 use Rattle.llvm_core.specs.Data.{ConstTree, trees_of, const_at, AreApart}
 use Rattle.dialect_core.specs.declared.numbers.BlockRef.{BlockRef}
@@ -24,8 +25,9 @@ use Rattle.from_llvm_ir.specs.Values.{value_at, IsNoted}
 use Rattle.from_llvm_ir.specs.Imported.{IsIn, UsedAgain, UsedFirst, constant_in, constants_in}
 use Rattle.from_llvm_ir.specs.Building.{IsOpen, with_ops, ops_of}
 use Rattle.from_llvm_ir.specs.Source.{used_by}
-use Rattle.from_llvm_ir.specs.Known.{Frame, IsConstantOp, StandsAt, value_of}
+use Rattle.from_llvm_ir.specs.Known.{Frame, IsConstantOp, IsHeldConst, StandsAt, value_of}
 use Rattle.from_llvm_ir.specs.Body.{IsHoisting, uses_of_inst}
+use Rattle.from_llvm_ir.specs.Types.{IsReadyFor}
 use Rattle.from_llvm_ir.proofs.ListLaws.{other_there}
 use Rattle.from_llvm_ir.proofs.UnderLaws.{below_at}
 use Rattle.from_llvm_ir.proofs.ValueLaws.{constant_noted}
@@ -38,6 +40,10 @@ module _ (fr : Frame) (m : Module) where
     number = (let e = h.under.numbered 0 (with_ops h.entry h.hoisted) refl in omega (arith, e, number));
     bare = h.bare;
   }
+
+  -- no struct comes meanwhile
+  pub hoisting_ready : (g : L.Function) (c c' : ContextData) (old new : Values) (uses more : List ConstTree) → IsHoisting fr m c old uses → IsHoisting fr m c' new more → IsReadyFor g (structs_of c.types) → IsReadyFor g (structs_of c'.types)
+  hoisting_ready g c c' old new uses more h h' ready = subst (IsReadyFor g) (h.under.structs ∙ sym h'.under.structs) ready
 
   -- a constant that was noted was used before
   pub used_again : (c : ContextData) (values : Values) (uses : List ConstTree) (k : LLVMConst) → IsHoisting fr m c values uses → IsSome (value_at values (K.Const k)) → IsHoisting fr m c values (uses ++ const_at (trees_of m).consts k ∷ [])
@@ -52,7 +58,7 @@ module _ (fr : Frame) (m : Module) where
     count = h.count;
     known = record {
       made = h.known.made;
-      short = h.known.short;
+      consts = h.known.consts;
       first_uses = UsedAgain uses h.constants (const_at (trees_of m).consts k) h.known.first_uses (there (value_at values (K.Const k)) refl some);
       long = h.known.long;
       notes = h.known.notes;
@@ -76,10 +82,10 @@ module _ (fr : Frame) (m : Module) where
       let no : ⊥ = cc (some, none) in no
 
   -- so it goes last
-  pub hoisted_more : (c c' : ContextData) (old new : Values) (uses : List ConstTree) (k : LLVMConst) (o : DialectOp) (to : Value) (block : BlockRef) (h : IsHoisting fr m c old uses) → AreApart m → k.0 < length m.consts → IsShortConst (const_at (trees_of m).consts k)
+  pub hoisted_more : (c c' : ContextData) (old new : Values) (uses : List ConstTree) (k : LLVMConst) (o : DialectOp) (to : Value) (block : BlockRef) (h : IsHoisting fr m c old uses) → AreApart m → k.0 < length m.consts → IsHeldConst (const_at (trees_of m).consts k)
       → value_at old (K.Const k) ≡ None → IsConstantOp (const_at (trees_of m).consts k) o → to ≡ value_of o → IsOpen fr.home fr.base c' block [] (with_ops h.entry (h.hoisted ++ o ∷ [])) h.more → length c'.ops ≡ length c.ops + 1 → o.number ≡ length c.ops → IsNoted old new (K.Const k) to
       → IsHoisting fr m c' new (uses ++ const_at (trees_of m).consts k ∷ [])
-  hoisted_more c c' old new uses k o to block h apart within short none makes is u longer number noted =
+  hoisted_more c c' old new uses k o to block h apart within held none makes is u longer number noted =
       let tree = const_at (trees_of m).consts k in
       record {
         constants = h.constants ++ tree ∷ [];
@@ -92,7 +98,7 @@ module _ (fr : Frame) (m : Module) where
         count = h.count;
         known = record {
           made = matched_push IsConstantOp h.constants h.hoisted tree o h.known.made makes;
-          short = λ i d at. elim (push_cases h.constants tree d i at) [ inl was ↦ h.known.short i d was | inr new ↦ subst IsShortConst (sym new.0) short ];
+          consts = λ i d at. elim (push_cases h.constants tree d i at) [ inl was ↦ h.known.consts i d was | inr new ↦ subst IsHeldConst (sym new.0) held ];
           first_uses = UsedFirst uses h.constants tree h.known.first_uses (fresh c old uses k h within none);
           long = refl;
           notes = constant_noted m fr old new h.constants h.hoisted [] [] k o to apart within (matched_length IsConstantOp h.constants h.hoisted h.known.made) is h.known.notes noted;

@@ -58,6 +58,7 @@ plain_here c0 c1 x o plain e number =
     plain_kind ts K.Module h = absurd (let no : ⊥ = cc h in no)
     plain_kind ts K.Func h = absurd (let no : ⊥ = cc h in no)
     plain_kind ts (K.Constant value) h = (_, refl)
+    plain_kind ts (K.Filled fill) h = (_, refl)
     plain_kind ts (K.Row op) h = (_, refl)
 
 pub added_op : (c0 c1 c2 : ContextData) (m : ℕ) (body : BlockRef) (d : DialectModule) (b : BlockRef) (o : OpRef) (kind : OpKind) (name : Option (List ℕ)) (operands : List Value) (successors : List Successor) (result : Option TypeHandle) (k : Kind)

@@ -137,7 +137,7 @@ known_more m old new uses fr cs os ps ws n n' at args i p o h below fresh number
     let s = split_below m old uses (knows fr cs os ps ws) n at args h below in
     record {
       made = h.made;
-      short = h.short;
+      consts = h.consts;
       first_uses = h.first_uses;
       long = (let a = length-push ps p in let b = length-push ws (value_of o) in let e = h.long in omega (arith, a, b, e));
       notes = result_noted m fr old new cs os ps ws i p (value_of o) number h.long fresh h.notes noted;

@@ -105,6 +105,7 @@ module _ (ts us : List TypeTree) (c : ContextData) (types : List TypeKind) (m : 
   kind_same K.Module h = refl
   kind_same K.Func h = refl
   kind_same (K.Constant (A.Integer t v)) h = ap (λ (x : TypeTree). Some (ConstantOp (IntegerAttr x v))) (same t h)
+  kind_same (K.Filled fill) h = refl
   kind_same (K.Row op) h = refl
 
   result_same : (t : Option TypeHandle) → IfSome t (λ (t : TypeHandle). t.0 < length c.types) → option_map (type_at us) t ≡ option_map (type_at ts) t

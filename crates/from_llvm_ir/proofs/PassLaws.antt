@@ -13,7 +13,7 @@ use Rattle.llvm_core.specs.Data as L
 use Rattle.llvm_core.specs.Data.{Placed, phi_entries, targets}
 use Rattle.llvm_core.proofs.DataLemmas.{within_at, length-filter_map_all, slice_get-filter_map_all}
 use Rattle.from_llvm_ir.specs.Imported.{first_entry, passed, phis_of}
-use Rattle.from_llvm_ir.specs.Source.{IsUsable}
+use Rattle.from_llvm_ir.specs.Source.{IsListed, IsUsable}
 use Rattle.from_llvm_ir.proofs.PlaceLaws.{flat_at, flat_from, filter_one, number_apart}
 
 -- what a phi takes for a block
@@ -169,16 +169,25 @@ module _ (g : L.Function) (form : LF.IsFormFunction g) where
     pub operand : L.Operand
     pub is : takes m p ≡ Some operand
     pub usable : LF.IsOperand g p.type operand
+    pub listed : IsListed g operand
 
   pub taken_for : (m i x : ℕ) (b : L.Block) (p : Placed) → slice_get g.blocks i ≡ Some b → slice_get b.instructions x ≡ Some p → LF.is_phi p ≡ true → 0 < LF.edges_between g m b.number → TakenFor m p
   taken_for m i x b p at here phi edge =
       let es = phi_is p phi in
       let form = phi_form i x b p es.0 at here es.1 in
       let first = first_counted m es.0 (subst (λ (c : ℕ). 0 < c) (sym (form.1.counts m)) edge) in
+      let k = flat_at (λ (c : L.Block). c.instructions) g.blocks i b x p at here in
       record {
         operand = first.operand;
         is = ap (option_and_then (first_entry m)) es.1 ∙ first.is;
         usable = subst (LF.IsOperand g p.type) first.same (within_at es.0 (λ (e : L.Operand × ℕ). LF.IsOperand g p.type e.0) form.0 first.place first.item first.at);
+        listed = record {
+          index = k.0;
+          user = p;
+          there = k.1;
+          place = first.place;
+          here = ap (λ (a : L.Instruction). slice_get (LF.operands_of a) first.place) (phi_instruction p.instruction es.0 es.1) ∙ slice_get-map (λ (e : L.Operand × ℕ). e.0) es.0 first.place ∙ ap (option_map (λ (e : L.Operand × ℕ). e.0)) first.at ∙ ap Some first.same;
+        };
       }
 
   module _ (m i : ℕ) (b : L.Block) (at : slice_get g.blocks i ≡ Some b) (edge : 0 < LF.edges_between g m b.number) where

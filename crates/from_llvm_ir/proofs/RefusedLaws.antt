@@ -1,6 +1,9 @@
 -- Where no value's type is or holds one for which the dialect has none, the types of all values of a module of the form are held.
-use Rattle.std.proofs.Common.{ℕ, ◌≡◌, refl, sym, subst, List, ◌++◌, Option, Some, None, All, map, slice_get}
+use Rattle.std.proofs.Common.{ℕ, zero, suc, ◌≡◌, ◌∙◌, refl, sym, ap, subst, List, ◌++◌, Option, Some, None, All, map, slice_get}
+use Rattle.std.specs.List.{flat_map}
+use Rattle.std.specs.Option.{option_map}
 use Rattle.std.proofs.lemmas.List.Elements.{All-cons, All-append, All-map, All-weaker}
+use Rattle.std.proofs.lemmas.Option.{none-some, same_Some, slice_get-map}
 use Rattle.support.proofs.ListLaws.{all_from}
 use Rattle.kinds.specs.declared.types.OtherType.{OtherType}
 use Rattle.kinds.specs.Types.{TypeTree, RefusedType, result_of, params_of}
@@ -9,15 +12,16 @@ use Rattle.kinds.specs.Held.{IsFirstClass, IsReturned, IsHeldResult, refused_of}
 use Rattle.kinds.proofs.HeldLaws.{returned_if, returned_held}
 use Rattle.kinds.proofs.RenamedLaws.{refused_held}
 use Rattle.llvm_core.specs.Data as L
-use Rattle.llvm_core.specs.Data.{Placed, Function, placed_in}
+use Rattle.llvm_core.specs.Data.{Placed, Function, const_type, operand_type, placed_in}
 use Rattle.llvm_core.specs.Form as LF
-use Rattle.llvm_core.specs.Form.{IsFormFunction, IsHeldFunction, value_types}
+use Rattle.llvm_core.specs.Form.{IsFormFunction, IsHeldFunction, constant_type, constant_types, value_types}
 use Rattle.llvm_core.proofs.DataLemmas.{within_at}
 use Rattle.held_types.specs.Held.{AreHeld, HasTypeWith}
 use Rattle.held_types.specs.declared.held_structs.HeldErr.{HeldErr}
 use Rattle.held_types.specs.declared.held_structs.HeldErr.TheVariants as H
 use Rattle.from_consts.specs.declared.conversion_err.Unsupported.{Unsupported}
 use Rattle.from_consts.specs.declared.conversion_err.Unsupported.TheVariants as U
+use Rattle.renamed_source.proofs.FormLaws.{get_from}
 use Rattle.from_llvm_ir.specs.Refusals.{IsCause, IsUnsupported}
 use Rattle.from_consts.specs.Forward.{of_held}
 use Rattle.from_llvm_ir.proofs.PlaceLaws.{flat_from}
@@ -33,19 +37,51 @@ held_cause d structs H.NoMemory lacks = tt
 
 -- ---- types of values that the form allows
 
+-- each operand of an instruction is of a type of values
+operand_first_class : (f : Function) (m : ℕ) (type : TypeTree) (i : L.Instruction) → LF.IsFormInstruction f m type i → (j : ℕ) (o : L.Operand) → slice_get (LF.operands_of i) j ≡ Some o → IsFirstClass (operand_type f o)
+operand_first_class f m type (L.Phi es) h j o at =
+    let e = get_from (λ (e : L.Operand × ℕ). e.0) es j o at in
+    let x = within_at es (λ (e : L.Operand × ℕ). LF.IsOperand f type e.0) h.0 j e.0 e.1 in
+    subst IsFirstClass (sym x.typed ∙ ap (operand_type f) e.2) x.first_class
+operand_first_class f m type (L.Applied r) h j o at =
+    within_at (LF.types_of f r.operands) IsFirstClass h.first_class j (operand_type f o) (slice_get-map (operand_type f) r.operands j ∙ ap (option_map (operand_type f)) at)
+
+-- the type of an operand that is a constant is the operand's
+constant_typed : (f : Function) (o : L.Operand) (k : ℕ) (t : TypeTree) → slice_get (constant_type o) k ≡ Some t → operand_type f o ≡ t
+constant_typed f (L.Constant c) zero t at = same_Some (const_type c) t at
+constant_typed f (L.Constant c) (suc k) t at = absurd (none-some t at)
+constant_typed f (L.Parameter g i) k t at = absurd (none-some t at)
+constant_typed f (L.Result n) k t at = absurd (none-some t at)
+
 module _ (f : Function) (form : IsFormFunction f) where
-  placed_returned : (k : ℕ) (p : Placed) → slice_get (placed_in f) k ≡ Some p → IsReturned p.type
-  placed_returned k p here =
+  record PlacedForm (p : Placed) : Type 0 where
+    number : ℕ
+    is : LF.IsFormPlaced f number p
+
+  placed_form : (k : ℕ) (p : Placed) → slice_get (placed_in f) k ≡ Some p → PlacedForm p
+  placed_form k p here =
       let b = flat_from (λ (c : L.Block). c.instructions) f.blocks k p here in
-      (within_at b.item.instructions (LF.IsFormPlaced f b.item.number) (within_at f.blocks (LF.IsFormBlock f) form.blocks b.place b.item b.here).instructions b.inner p b.at).returned
+      record { number = b.item.number; is = within_at b.item.instructions (LF.IsFormPlaced f b.item.number) (within_at f.blocks (LF.IsFormBlock f) form.blocks b.place b.item b.here).instructions b.inner p b.at }
+
+  placed_returned : (k : ℕ) (p : Placed) → slice_get (placed_in f) k ≡ Some p → IsReturned p.type
+  placed_returned k p here = (placed_form k p here).is.returned
+
+  constant_returned : (k : ℕ) (t : TypeTree) → slice_get (flat_map constant_types (placed_in f)) k ≡ Some t → IsReturned t
+  constant_returned k t at =
+      let p = flat_from constant_types (placed_in f) k t at in
+      let o = flat_from constant_type (LF.operands_of p.item.instruction) p.inner t p.at in
+      let b = placed_form p.place p.item p.here in
+      returned_if t (subst IsFirstClass (constant_typed f o.item o.inner t o.at) (operand_first_class f b.number p.item.type p.item.instruction b.is.instruction o.place o.item o.here))
 
   pub values_returned : All IsReturned (value_types f)
   values_returned =
       let results = map (λ (p : Placed). p.type) (placed_in f) in
+      let constants = flat_map constant_types (placed_in f) in
       let first = subst (λ (t : TypeTree). IsReturned (result_of t)) (sym form.type) form.returns in
       let taken = All-weaker IsFirstClass IsReturned returned_if (params_of f.type) (subst (λ (u : TypeTree). All IsFirstClass (params_of u)) (sym form.type) form.takes) in
       let placed = All-map IsReturned (λ (p : Placed). p.type) (placed_in f) (all_from (λ (p : Placed). IsReturned p.type) (placed_in f) placed_returned) in
-      All-cons IsReturned (result_of f.type) (params_of f.type ++ results) first (All-append IsReturned (params_of f.type) results taken placed)
+      let used = all_from IsReturned constants constant_returned in
+      All-cons IsReturned (result_of f.type) (params_of f.type ++ results ++ constants) first (All-append IsReturned (params_of f.type ++ results) constants (All-append IsReturned (params_of f.type) results taken placed) used)
 
 -- ---- none of them is lacked
 

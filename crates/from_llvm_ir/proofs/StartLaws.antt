@@ -291,7 +291,7 @@ not_hoisting m f fr func c values n framed is h notes = by h.heads h.building (h
           count = count;
           known = record {
             made = tt;
-            short = λ i d at. absurd (none-some d at);
+            consts = λ i d at. absurd (none-some d at);
             first_uses = NoUses;
             long = refl;
             notes = notes;
@@ -379,7 +379,7 @@ module _ (m : Module) (f : LLVMFunction) (fr : Frame) (c : ContextData) (values 
     numbered = under_left.numbered;
     fresh = under_left.fresh.apart;
     made = h.known.made;
-    short = h.known.short;
+    consts = h.known.consts;
     once = first_once (all_uses m fr) h.constants h.known.first_uses;
     sources = ap (flat_map (λ (b : L.Block). b.instructions)) (take_all n (blocks_of fr) (omega (arith, all)));
     long = h.known.long;

@@ -19,7 +19,7 @@ use Rattle.llvm_core.specs.Data as L
 use Rattle.llvm_core.specs.Data.{Placed, Trees, trees_of, operand_of, instruction_of, phi_entries}
 use Rattle.from_llvm_ir.specs.declared.entries.Entries.{Entries}
 use Rattle.from_llvm_ir.specs.Imported.{first_entry, passed}
-use Rattle.from_llvm_ir.specs.Source.{LeadsTo, IsInstOf, IsNotedOf, IsUsed, taken, taken_by}
+use Rattle.from_llvm_ir.specs.Source.{LeadsTo, IsInstOf, IsListed, IsNotedOf, IsUsed, taken, taken_by}
 use Rattle.from_llvm_ir.proofs.SourceLaws.{block_number}
 use Rattle.from_llvm_ir.proofs.EntryLaws.{first_is, taken_there}
 use Rattle.from_llvm_ir.proofs.PassLaws.{takes, no_phi_is, block_form, passed_is, taken_for}
@@ -45,18 +45,18 @@ pub edge_value : (m : Module) (f : LLVMFunction) (g : L.Function) (entries : Ent
 edge_value m f g entries from to h i at p inst phi =
     let edge : 0 < LF.edges_between g from.0 h.block.number = subst (λ (x : ℕ). 0 < LF.edges_between g from.0 x) (sym (block_number m g to h.place h.block h.is)) h.edge in
     let t = taken_for g h.source.form from.0 h.place at h.block p h.is.at inst.at phi edge in
-    by (taken m i from) t.operand refl (sym (takes_is m h.block i at p from inst) ∙ t.is) t.usable
+    by (taken m i from) t.operand refl (sym (takes_is m h.block i at p from inst) ∙ t.is) t.usable t.listed
   where
-    by : (v : Option LLVMValue) (o : L.Operand) → taken m i from ≡ v → option_map (operand_of (trees_of m)) v ≡ Some o → LF.IsOperand g p.type o → EdgeValue m g entries from i p
-    by None o e is usable = absurd (none-some o is)
-    by (Some v) o e is usable =
+    by : (v : Option LLVMValue) (o : L.Operand) → taken m i from ≡ v → option_map (operand_of (trees_of m)) v ≡ Some o → LF.IsOperand g p.type o → IsListed g o → EdgeValue m g entries from i p
+    by None o e is usable listed = absurd (none-some o is)
+    by (Some v) o e is usable listed =
         let same : operand_of (trees_of m) v ≡ o = same_Some (operand_of (trees_of m) v) o is in
         let by_inst : taken_by from inst.row.inst ≡ Some v = sym (ap (λ (x : Option InstData). option_map_or (λ (y : InstData). taken_by from y.inst) x None) inst.here) ∙ e in
         record {
           value = v;
           noted = h.noted.each to h.place h.block i at p h.is inst;
           is = e;
-          used = record { valid = taken_there m from inst.row.inst v (h.source.sound.insts i.0 inst.row inst.here).values by_inst; usable = (p.type, subst (LF.IsOperand g p.type) (sym same) usable) };
+          used = record { valid = taken_there m from inst.row.inst v (h.source.sound.insts i.0 inst.row inst.here).values by_inst; usable = (p.type, subst (LF.IsOperand g p.type) (sym same) usable); listed = subst (IsListed g) (sym same) listed };
           takes_it = takes_is m h.block i at p from inst ∙ ap (option_map (operand_of (trees_of m))) e;
         }
 

@@ -23,7 +23,7 @@ use Rattle.from_llvm_ir.specs.declared.entries.Entries.{Entries}
 use Rattle.from_llvm_ir.specs.Imported.{passed}
 use Rattle.from_llvm_ir.specs.Parts.{target_blocks}
 use Rattle.from_llvm_ir.specs.Source.{IsSite, LeadsTo, IsUsed, used_by}
-use Rattle.from_llvm_ir.proofs.PlaceLaws.{flat_next}
+use Rattle.from_llvm_ir.proofs.PlaceLaws.{flat_at, flat_next}
 use Rattle.from_llvm_ir.proofs.SourceLaws.{block_named, block_number, instruction_is, phi_read}
 use Rattle.from_llvm_ir.proofs.PassLaws.{inst_form, operands_usable, edge_there, target_there}
 
@@ -76,11 +76,14 @@ module _ (m : Module) (f : LLVMFunction) (g : L.Function) (entries : Entries) (f
       operands_are = operands_same (trees_of m) inst no_phi ∙ sym (ap LF.operands_of is)
 
       pub operands_used : HasValues m inst → All (IsUsed m g) (operands inst)
-      operands_used values = all_from (IsUsed m g) (operands inst) (λ j v at. record {
-        valid = operands_there m inst no_phi values j v at;
-        usable = operands_usable g h.source.form b.number p (inst_form g h.source.form h.place h.at b p h.of_block.at h.inst.at) other j (operand_of (trees_of m) v)
-            (ap (λ (os : List L.Operand). slice_get os j) (sym operands_are) ∙ slice_get-map (operand_of (trees_of m)) (operands inst) j ∙ ap (option_map (operand_of (trees_of m))) at);
-      })
+      operands_used values = all_from (IsUsed m g) (operands inst) (λ j v at.
+          let there = ap (λ (os : List L.Operand). slice_get os j) (sym operands_are) ∙ slice_get-map (operand_of (trees_of m)) (operands inst) j ∙ ap (option_map (operand_of (trees_of m))) at in
+          let k = flat_at (λ (c : L.Block). c.instructions) g.blocks h.place b h.at p h.of_block.at h.inst.at in
+          record {
+            valid = operands_there m inst no_phi values j v at;
+            usable = operands_usable g h.source.form b.number p (inst_form g h.source.form h.place h.at b p h.of_block.at h.inst.at) other j (operand_of (trees_of m) v) there;
+            listed = record { index = k.0; user = p; there = k.1; place = j; here = there };
+          })
 
 -- ---- target by target
 

@@ -10,7 +10,7 @@ use Rattle.kinds.specs.Types.{types_list, count_types, params_of}
 use Rattle.kinds.specs.Held.{IsFirstClass}
 use Rattle.llvm_core.specs.Form as LF
 use Rattle.llvm_core.specs.Data as L
-use Rattle.llvm_core.specs.Data.{ConstTree, IntConst, PlaceholderConst, VoidType, Placed, operand_type, placed_in}
+use Rattle.llvm_core.specs.Data.{ConstTree, IntConst, FilledConst, PlaceholderConst, VoidType, Placed, operand_type, placed_in}
 use Rattle.dialect_types.specs.Trees.{TypeTree}
 use Rattle.dialect_core.specs.declared.numbers.BlockRef.{BlockRef}
 use Rattle.dialect_core.specs.declared.ops.Value.{Value}
@@ -20,7 +20,7 @@ use Rattle.meaning.specs.Pairs.{Matched}
 use Rattle.from_llvm_ir.specs.Match.{IsPlaces}
 use Rattle.from_llvm_ir.specs.Imported.{kept_name}
 use Rattle.from_llvm_ir.specs.Building.{AreNumbered, bare_func, ops_of}
-use Rattle.from_llvm_ir.specs.Known.{Known, Stands, IsConstantOp, beside, blocks_of, value_of}
+use Rattle.from_llvm_ir.specs.Known.{Known, Stands, IsConstantOp, IsHeldConst, beside, blocks_of, value_of}
 use Rattle.from_llvm_ir.specs.Converted.{IsConverted, AreConverted, IsFrom, FromArgument, FromResult, AreFrom}
 use Rattle.from_llvm_ir.proofs.RowLaws.{first_class_is_own}
 use Rattle.from_llvm_ir.proofs.PlaceLaws.{flat_at, flat_from, flat_same, found, number_apart}
@@ -35,7 +35,7 @@ pub record IsWhole (k : Known) (cs : List DialectBlock) : Type 0 where
   pub numbered : AreNumbered k.frame.base cs
   pub fresh : (i j : ℕ) (a b : DialectOp) → slice_get (ops_of cs) i ≡ Some a → slice_get (ops_of cs) j ≡ Some b → a.number ≡ b.number → i ≡ j
   pub made : Matched IsConstantOp k.constants k.hoisted
-  pub short : (i : ℕ) (c : ConstTree) → slice_get k.constants i ≡ Some c → LF.IsShortConst c
+  pub consts : (i : ℕ) (c : ConstTree) → slice_get k.constants i ≡ Some c → IsHeldConst c
   pub once : IsDistinctList k.constants
   pub sources : k.sources ≡ flat_map (λ (b : L.Block). b.instructions) (blocks_of k.frame)
   pub long : length k.done ≡ length k.sources
@@ -98,6 +98,7 @@ listed_length (L.ThenType t ts) = let e = listed_length ts in omega (arith, e)
 
 constant_result : (c : ConstTree) (o : DialectOp) → IsConstantOp c o → o.result ≡ Some (L.const_type c)
 constant_result (IntConst w v) o h = ap (λ (x : DialectOp). x.result) h
+constant_result (FilledConst fill t) o h = ap (λ (x : DialectOp). x.result) h
 constant_result (PlaceholderConst n t) o h = elim h [ ]
 
 -- the number and the name of a function of the dialect

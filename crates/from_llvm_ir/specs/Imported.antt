@@ -7,7 +7,7 @@ use Rattle.llvm_core.specs.Data as L
 use Rattle.llvm_core.specs.declared.numbers.LLVMInstRef.{LLVMInstRef}
 use Rattle.llvm_core.specs.declared.code.LLVMValue.{LLVMValue}
 use Rattle.llvm_core.specs.declared.code.LLVMValue.TheVariants as V
-use Rattle.llvm_core.specs.Data.{ConstTree, IntConst, PlaceholderConst, Placed, targets, phi_entries, placed_in}
+use Rattle.llvm_core.specs.Data.{ConstTree, IntConst, FilledConst, PlaceholderConst, Placed, targets, phi_entries, placed_in}
 use Rattle.llvm_core.specs.Form.{is_phi}
 use Rattle.dialect_types.specs.Legalised.{Named, Gave, IsLegalised}
 use Rattle.dialect_types.specs.Trees.{IntegerAttr, IntType}
@@ -20,7 +20,7 @@ use Rattle.dialect_core.specs.declared.ops.OpData.{OpData}
 use Rattle.dialect_core.specs.declared.ops.BlockData.{BlockData}
 use Rattle.dialect_core.specs.Lists.{list_at}
 use Rattle.dialect_core.specs.ContextData.{ContextData, kind_at, region_at}
-use Rattle.dialect_core.specs.Data.{DialectModule, DialectBlock, DialectOp, Func, ConstantOp, IsTypedOp, data_of}
+use Rattle.dialect_core.specs.Data.{DialectModule, DialectBlock, DialectOp, Func, ConstantOp, FilledOp, IsTypedOp, data_of}
 use Rattle.dialect_core.specs.Form.{IsFormFunc, HasConstantsInEntry, IsExportable, HasTargets}
 use Rattle.dialect_core.specs.WellFormed.{IsPlainAt, IsWellFormed}
 use Rattle.meaning.specs.Terms.{Match}
@@ -73,6 +73,7 @@ pub data FirstUses {A : Type 0} : (uses firsts : List A) → Type 0 where
 -- the operation makes the constant, and has no name
 abbrev pub Makes : ConstTree → DialectOp → Type 0
 Makes (IntConst w v) o = (o.kind ≡ ConstantOp (IntegerAttr (IntType w) v)) × (o.name ≡ None)
+Makes (FilledConst fill type) o = (o.kind ≡ FilledOp fill) × (o.result ≡ Some type) × (o.name ≡ None)
 Makes (PlaceholderConst n type) o = ⊥
 
 -- ---- functions

@@ -1,17 +1,21 @@
 -- What the values of a source function stand for, as far as the function was imported.
-use Rattle.std.specs.Prelude.{ℕ, ◌≡◌, ◌<◌, ◌≤◌, ◌⊎◌, IsSome, Bool, nat_eq, if◌then◌else◌, List, [], ◌∷◌, Option, Some, None, All, length, slice_get}
+use Rattle.std.specs.Prelude.{ℕ, ◌≡◌, ◌<◌, ◌≤◌, ◌⊎◌, IsSome, IsTrue, Bool, nat_eq, if◌then◌else◌, List, [], ◌∷◌, Option, Some, None, All, length, slice_get}
 use Rattle.llvm_core.specs.declared.code.LLVMValue.{LLVMValue}
 use Rattle.support.specs.Interned.{IsDistinctList}
 use Rattle.llvm_core.specs.Module.{Module}
 use Rattle.llvm_core.specs.Parts.{IsValue}
 use Rattle.llvm_core.specs.Data as L
-use Rattle.llvm_core.specs.Data.{ConstTree, IntConst, PlaceholderConst, Placed, trees_of, operand_of}
-use Rattle.llvm_core.specs.Form.{IsShortConst}
-use Rattle.dialect_types.specs.Trees.{IntegerAttr, IntType}
+use Rattle.llvm_core.specs.Data.{ConstTree, IntConst, FilledConst, PlaceholderConst, Placed, const_type, trees_of, operand_of}
+use Rattle.llvm_core.specs.Form.{IsFormConst}
+use Rattle.kinds.specs.Held.{IsHeld}
+use Rattle.dialect_types.specs.declared.types.TypeHandle.{TypeHandle}
+use Rattle.dialect_types.specs.Trees.{TypeTree, IntegerAttr, IntType, type_at}
 use Rattle.dialect_types.specs.Legalised.{Named}
 use Rattle.dialect_core.specs.declared.ops.Value.{Value}
 use Rattle.dialect_core.specs.declared.ops.Value.TheVariants as V
-use Rattle.dialect_core.specs.Data.{DialectOp, ConstantOp}
+use Rattle.dialect_core.specs.declared.ops.OpKind.{OpKind}
+use Rattle.dialect_core.specs.ContextData.{is_plain}
+use Rattle.dialect_core.specs.Data.{DialectOp, Kind, ConstantOp, FilledOp, kind_of, HasKindTypesBelow}
 use Rattle.meaning.specs.Pairs.{Matched}
 use Rattle.from_llvm_ir.specs.declared.values.Values.{Values}
 use Rattle.from_llvm_ir.specs.Values.{value_at}
@@ -77,7 +81,19 @@ pub record Notes (m : Module) (values : Values) (k : Known) : Type 0 where
 -- the operation makes the constant, and nothing else
 abbrev pub IsConstantOp : ConstTree → DialectOp → Type 0
 IsConstantOp (IntConst w v) o = o ≡ new_op o.number None (ConstantOp (IntegerAttr (IntType w) v)) [] [] (Some (IntType w))
+IsConstantOp (FilledConst fill type) o = o ≡ new_op o.number None (FilledOp fill) [] [] (Some type)
 IsConstantOp (PlaceholderConst n type) o = ⊥
+
+-- an operation of that kind makes the constant, where the type of its result is that of the constant
+pub record IsMaking (c : ConstTree) (ty : TypeHandle) (kind : OpKind) : Type 0 where
+  pub plain : IsTrue (is_plain kind)
+  pub types : (n : ℕ) → ty.0 < n → HasKindTypesBelow n kind
+  pub makes : (ts : List TypeTree) → type_at ts ty ≡ const_type c → (k : Kind) × (kind_of ts kind ≡ Some k) × ((n : ℕ) → IsConstantOp c (new_op n None k [] [] (Some (type_at ts ty))))
+
+-- a constant of the form, of a type that is translated
+pub record IsHeldConst (c : ConstTree) : Type 0 where
+  pub form : IsFormConst c
+  pub held : IsHeld (const_type c)
 
 -- the value is of an operation from `split` up to n, or one of the first arguments of the block `at`, or one of a
 -- block before
@@ -89,7 +105,7 @@ IsOlder split n at args (V.Argument b i) = (b.0 < at) ⊎ ((b.0 ≡ at) × (i < 
 -- from one another and from what is hoisted
 pub record IsKnown (m : Module) (values : Values) (uses : List ConstTree) (k : Known) (n at args : ℕ) : Type 0 where
   pub made : Matched IsConstantOp k.constants k.hoisted
-  pub short : (i : ℕ) (c : ConstTree) → slice_get k.constants i ≡ Some c → IsShortConst c
+  pub consts : (i : ℕ) (c : ConstTree) → slice_get k.constants i ≡ Some c → IsHeldConst c
   pub first_uses : FirstUses uses k.constants
   pub long : length k.done ≡ length k.sources
   pub notes : Notes m values k

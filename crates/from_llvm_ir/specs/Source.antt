@@ -16,8 +16,8 @@ use Rattle.llvm_core.specs.Module.{Module}
 use Rattle.llvm_core.specs.Sound.{IsModule}
 use Rattle.llvm_core.specs.Parts.{IsValue}
 use Rattle.llvm_core.specs.Data as L
-use Rattle.llvm_core.specs.Data.{Placed, trees_of, type_at, operand_of, placed_of, block_of, AreApart, data_of}
-use Rattle.llvm_core.specs.Form.{IsFormFunction, IsHeldFunction, IsOperand, edges_between}
+use Rattle.llvm_core.specs.Data.{Placed, trees_of, type_at, operand_of, placed_in, placed_of, block_of, AreApart, data_of}
+use Rattle.llvm_core.specs.Form.{IsFormFunction, IsHeldFunction, IsOperand, edges_between, operands_of}
 use Rattle.kinds.specs.Held.{IsHeldResult}
 use Rattle.meaning.specs.Llvm.{used}
 use Rattle.from_llvm_ir.specs.declared.entries.Entries.{Entries}
@@ -127,7 +127,16 @@ used_by g b p = used p.instruction ++ flat_map (passed g b.number) (L.targets p.
 abbrev pub IsUsable : L.Function → L.Operand → Type 0
 IsUsable g o = (type : L.TypeTree) × IsOperand g type o
 
--- the value is there, and stands for an operand of g
+-- it is an operand of an instruction of g
+pub record IsListed (g : L.Function) (o : L.Operand) : Type 0 where
+  pub index : ℕ
+  pub user : Placed
+  pub there : slice_get (placed_in g) index ≡ Some user
+  pub place : ℕ
+  pub here : slice_get (operands_of user.instruction) place ≡ Some o
+
+-- the value is there, and stands for an operand of an instruction of g
 pub record IsUsed (m : Module) (g : L.Function) (v : LLVMValue) : Type 0 where
   pub valid : IsValue m v
   pub usable : IsUsable g (operand_of (trees_of m) v)
+  pub listed : IsListed g (operand_of (trees_of m) v)

@@ -3,14 +3,16 @@
 ghost use Rattle.std.specs.Prelude.{◌≡◌, ◌<◌, ◌≤◌, ◌+◌, ◌∷◌, ◌++◌, [], List, ℕ, IfOk, OnOk, All, length, map};
 ghost use Rattle.std.specs.List.{filter_map, flat_map};
 ghost use Rattle.llvm_core.specs.Sound.{IsModule};
-ghost use Rattle.llvm_core.specs.Form.{IsShortConst};
-ghost use Rattle.llvm_core.specs.Data.{AreApart, Block, ConstTree, Function, Placed, trees_of, const_at, operand_of, data_of};
+ghost use Rattle.llvm_core.specs.Form.{IsFormConst};
+ghost use Rattle.llvm_core.specs.Data.{AreApart, Block, ConstTree, Function, Placed, trees_of, const_at, const_type, operand_of, data_of};
+ghost use Rattle.dialect_types.specs.Trees.{structs_of};
 ghost use Rattle.dialect_core.specs.Data.{DialectBlock, DialectOp};
 ghost use Rattle.from_llvm_ir.specs.Imported.{constant_in, constants_in, rest_of};
 ghost use Rattle.from_llvm_ir.specs.Building.{Home, IsOpen, with_ops};
 ghost use Rattle.from_llvm_ir.specs.Source.{IsSource, IsBlockOf, IsSite, IsUsed, AreEntries};
 ghost use Rattle.from_llvm_ir.specs.Keeping.{Keeps};
-ghost use Rattle.from_llvm_ir.specs.Known.{Frame, IsConstantOp};
+ghost use Rattle.from_llvm_ir.specs.Known.{Frame, IsConstantOp, IsHeldConst, IsMaking};
+ghost use Rattle.from_llvm_ir.specs.Types.{IsReadyFor, NamesAmong};
 ghost use Rattle.from_llvm_ir.specs.Body.{IsFramed, IsHoisting, all_uses, uses_of_inst};
 
 use crate::building::add_op;
@@ -23,6 +25,7 @@ use dialect_core::numbers::{BlockRef, OpRef};
 use dialect_core::ops::{OpKind, Value};
 use dialect_core::steps::Steps;
 use dialect_types::attrs::ConstAttr;
+use dialect_types::types::TypeHandle;
 use llvm_core::code::LLVMValue;
 use llvm_core::consts::LLVMConstKind;
 use llvm_core::numbers::{LLVMBasicBlock, LLVMConst, LLVMFunction, LLVMInstRef};
@@ -31,6 +34,19 @@ use std::alloc::{AllocError, Global};
 use std::sync::ledger::Ledger;
 use support::items::Items;
 use support::short_list::ShortList;
+
+/// The kind of an operation that makes a constant with a result of that type: a line for each kind of constant.
+fn constant_kind(source: &Source<'_>, c: LLVMConst, ty: TypeHandle) -> OpKind
+    requires within { c.0 < length source.now.consts }
+    requires form { IsFormConst (const_at (trees_of source.now).consts c) }
+    ensures { IsMaking (const_at (trees_of source.now).consts c) ty result }
+{
+    match source.const_kind(c) {
+        LLVMConstKind::Int(_, value) => OpKind::Constant(ConstAttr::Integer(ty, *value as u64)),
+        LLVMConstKind::Filled(fill, _) => OpKind::Filled(*fill),
+        LLVMConstKind::Placeholder(..) => unreachable!(),
+    }
+}
 
 /// A new last operation of the block that makes a constant.
 fn add_constant<L: Ledger>(
@@ -43,7 +59,8 @@ fn add_constant<L: Ledger>(
 ) -> Result<OpRef, AllocError>
     requires sound { IsModule source.now }
     requires within { c.0 < length source.now.consts }
-    requires short { IsShortConst (const_at (trees_of source.now).consts c) }
+    requires held { IsHeldConst (const_at (trees_of source.now).consts c) }
+    requires ready { NamesAmong (structs_of ctx.old.types) (const_type (const_at (trees_of source.now).consts c)) }
     requires open { (h : Home) × (base : ℕ) × (left : List DialectBlock) × (now : DialectBlock) × (right : List DialectBlock) × IsOpen h base ctx.old block left now right }
     ensures made { IfOk result (λ o. (h : Home) → (base : ℕ) → (left : List DialectBlock) → (now : DialectBlock) → (right : List DialectBlock) → IsOpen h base ctx.old block left now right
         → (x : DialectOp) × (x.number ≡ o.0) × IsConstantOp (const_at (trees_of source.now).consts c) x × IsOpen h base ctx.new block left (with_ops now (now.ops ++ x ∷ [])) right) }
@@ -51,20 +68,18 @@ fn add_constant<L: Ledger>(
     ensures count { OnOk result (length ctx.new.ops ≡ length ctx.old.ops + 1) }
     ensures kept { (n b : ℕ) → b ≤ block.0 → Keeps n b ctx.old ctx.new }
 {
-    let LLVMConstKind::Int(ty, value) = source.const_kind(c) else {
-        unreachable!();
-    };
-    let int = import_plain(alloc, ctx, source, *ty)?;
-    let constant = OpKind::Constant(ConstAttr::Integer(int, *value as u64));
+    let ty = source.type_of(LLVMValue::Const(c));
+    let made = import_plain(alloc, ctx, source, ty)?;
+    let kind = constant_kind(source, c, made);
     let operands = ShortList::zero();
     let successors = Items::new(alloc);
     add_op(
         ctx,
         block,
-        constant,
+        kind,
         operands,
         successors,
-        Some(int),
+        Some(made),
         None,
         steps,
     )
@@ -83,7 +98,8 @@ fn hoist_constant<L: Ledger>(
     requires sound { IsModule source.now }
     requires apart { AreApart source.now }
     requires within { c.0 < length source.now.consts }
-    requires short { IsShortConst (const_at (trees_of source.now).consts c) }
+    requires held { IsHeldConst (const_at (trees_of source.now).consts c) }
+    requires ready { NamesAmong (structs_of ctx.old.types) (const_type (const_at (trees_of source.now).consts c)) }
     requires hoisting { (fr : Frame) × (uses : List ConstTree) × IsHoisting fr source.now ctx.old values.old uses × (block.0 ≡ fr.base) }
     ensures hoisting { OnOk result ((fr : Frame) → (uses : List ConstTree) → IsHoisting fr source.now ctx.old values.old uses → block.0 ≡ fr.base
         → IsHoisting fr source.now ctx.new values.new (uses ++ const_at (trees_of source.now).consts c ∷ [])) }
@@ -107,9 +123,7 @@ fn hoist<L: Ledger>(
     operand: LLVMValue,
     steps: &mut Steps<L>,
 ) -> Result<(), AllocError>
-    requires sound { IsModule source.now }
-    requires apart { AreApart source.now }
-    requires used { (g : Function) × IsUsed source.now g operand }
+    requires used { (f : LLVMFunction) × (g : Function) × IsSource source.now f g × IsReadyFor g (structs_of ctx.old.types) × IsUsed source.now g operand }
     requires hoisting { (fr : Frame) × (uses : List ConstTree) × IsHoisting fr source.now ctx.old values.old uses × (block.0 ≡ fr.base) }
     ensures hoisting { OnOk result ((fr : Frame) → (uses : List ConstTree) → IsHoisting fr source.now ctx.old values.old uses → block.0 ≡ fr.base
         → IsHoisting fr source.now ctx.new values.new (uses ++ filter_map constant_in (operand_of (trees_of source.now) operand ∷ []))) }
@@ -131,9 +145,7 @@ fn hoist_values<L: Ledger>(
     operands: &[LLVMValue],
     steps: &mut Steps<L>,
 ) -> Result<(), AllocError>
-    requires sound { IsModule source.now }
-    requires apart { AreApart source.now }
-    requires used { (g : Function) × All (IsUsed source.now g) operands.now }
+    requires used { (f : LLVMFunction) × (g : Function) × IsSource source.now f g × IsReadyFor g (structs_of ctx.old.types) × All (IsUsed source.now g) operands.now }
     requires hoisting { (fr : Frame) × (uses : List ConstTree) × IsHoisting fr source.now ctx.old values.old uses × (block.0 ≡ fr.base) }
     ensures hoisting { OnOk result ((fr : Frame) → (uses : List ConstTree) → IsHoisting fr source.now ctx.old values.old uses → block.0 ≡ fr.base
         → IsHoisting fr source.now ctx.new values.new (uses ++ filter_map constant_in (map (operand_of (trees_of source.now)) operands.now))) }
@@ -157,7 +169,7 @@ fn hoist_inst<L: Ledger>(
     i: LLVMInstRef,
     steps: &mut Steps<L>,
 ) -> Result<(), AllocError>
-    requires site { (f : LLVMFunction) × (g : Function) × (b : Block) × (p : Placed) × IsSite source.now f g entries.now from i b p }
+    requires site { (f : LLVMFunction) × (g : Function) × (b : Block) × (p : Placed) × IsSite source.now f g entries.now from i b p × IsReadyFor g (structs_of ctx.old.types) }
     requires hoisting { (fr : Frame) × (uses : List ConstTree) × IsHoisting fr source.now ctx.old values.old uses × (block.0 ≡ fr.base) }
     ensures hoisting { OnOk result ((f : LLVMFunction) → (g : Function) → (b : Block) → (p : Placed) → IsSite source.now f g entries.now from i b p → (fr : Frame) → (uses : List ConstTree) → IsHoisting fr source.now ctx.old values.old uses → block.0 ≡ fr.base
         → IsHoisting fr source.now ctx.new values.new (uses ++ uses_of_inst (data_of source.now) g b p)) }
@@ -181,7 +193,7 @@ fn hoist_block<L: Ledger>(
     from: LLVMBasicBlock,
     steps: &mut Steps<L>,
 ) -> Result<(), AllocError>
-    requires site { (f : LLVMFunction) × (g : Function) × (place : ℕ) × (b : Block) × IsSource source.now f g × AreEntries source.now g entries.now × IsBlockOf source.now g from place b }
+    requires site { (f : LLVMFunction) × (g : Function) × (place : ℕ) × (b : Block) × IsSource source.now f g × AreEntries source.now g entries.now × IsBlockOf source.now g from place b × IsReadyFor g (structs_of ctx.old.types) }
     requires hoisting { (fr : Frame) × (uses : List ConstTree) × IsHoisting fr source.now ctx.old values.old uses × (block.0 ≡ fr.base) }
     ensures hoisting { OnOk result ((f : LLVMFunction) → (g : Function) → (place : ℕ) → (b : Block) → IsSource source.now f g → AreEntries source.now g entries.now → IsBlockOf source.now g from place b → (fr : Frame) → (uses : List ConstTree) → IsHoisting fr source.now ctx.old values.old uses → block.0 ≡ fr.base
         → IsHoisting fr source.now ctx.new values.new (uses ++ flat_map (constants_in (data_of source.now) g b) (rest_of b))) }

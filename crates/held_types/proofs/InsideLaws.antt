@@ -27,7 +27,7 @@ use Rattle.held_types.specs.declared.table.Table.{Table}
 use Rattle.held_types.specs.declared.walk.Walk.{Walk}
 use Rattle.held_types.specs.Held.{IsStructOf}
 use Rattle.held_types.specs.Table.{IsFirst, IsTable}
-use Rattle.held_types.specs.Walk.{IsIn, IsAmong, IsInKind, IsInFields, Walked, IsCause}
+use Rattle.held_types.specs.Walk.{IsOfOne, IsIn, IsAmong, IsInKind, IsInFields, Walked, IsCause}
 use Rattle.held_types.proofs.TableLaws.{one_first}
 use Rattle.held_types.proofs.WalkLaws.{IsAsked, IsWithin, IsSplit, on_ok_as, if_err_as, cause_as, walked_as}
 
@@ -49,6 +49,24 @@ pub each_at : (p : TypeTree → Bool) (trees : List TypeTree) (ts : List LLVMTyp
 each_at p trees [] i d lt h = absurd (omega arith)
 each_at p trees (t ∷ ts) zero d lt h = and_left (p (type_at trees t)) (each_type p (types_at trees ts)) h
 each_at p trees (t ∷ ts) (suc i) d lt h = each_at p trees ts i d (omega (arith, lt)) (and_right (p (type_at trees t)) (each_type p (types_at trees ts)) h)
+
+-- ---- one of a list
+
+module _ {X : Type 0} (P : X → TypeTree → Type 0) (xs : List X) (i : ℕ) (d : X) (lt : i < length xs) where
+  pub one_here : IsWithin (P (get_or xs i d)) (IsOfOne P xs)
+  one_here u asked h = (i, get_or xs i d, slice_get-get_or xs i d lt, h)
+
+  pub one_split : IsSplit (IsOfOne P (take (i + 1) xs)) (IsOfOne P (take i xs)) (P (get_or xs i d))
+  one_split u asked (k, x, at, h) = elim (slice_get-push_cases (take i xs) (get_or xs i d) k x (ap (λ (ys : List X). slice_get ys k) (sym (take_more xs i d lt)) ∙ at)) [
+    | inl old ↦ inl (k, x, old, h)
+    | inr new ↦ inr (subst (λ (y : X). P y u) new.1 h)
+  ]
+
+  pub one_more : IsWithin (IsOfOne P (take i xs)) (IsOfOne P (take (i + 1) xs))
+  one_more u asked (k, x, at, h) = (k, x, ap (λ (ys : List X). slice_get ys k) (take_more xs i d lt) ∙ slice_get-kept (take i xs) (get_or xs i d ∷ []) k x at, h)
+
+  pub one_last : IsWithin (P (get_or xs i d)) (IsOfOne P (take (i + 1) xs))
+  one_last u asked h = (length (take i xs), get_or xs i d, ap (λ (ys : List X). slice_get ys (length (take i xs))) (take_more xs i d lt) ∙ slice_get-push (take i xs) (get_or xs i d) (length (take i xs)) refl, h)
 
 -- ---- what a tree holds
 
@@ -80,21 +98,6 @@ module _ (m : Module) where
   -- ---- by numbers
 
   module _ (ts : List LLVMType) (i : ℕ) (d : LLVMType) (lt : i < length ts) where
-    pub among_here : (u : TypeTree) → IsIn m (get_or ts i d) u → IsAmong m ts u
-    among_here u h = (i, get_or ts i d, slice_get-get_or ts i d lt, h)
-
-    pub among_split : IsSplit (IsAmong m (take (i + 1) ts)) (IsAmong m (take i ts)) (IsIn m (get_or ts i d))
-    among_split u asked (k, t, at, h) = elim (slice_get-push_cases (take i ts) (get_or ts i d) k t (ap (λ (us : List LLVMType). slice_get us k) (sym (take_more ts i d lt)) ∙ at)) [
-      | inl old ↦ inl (k, t, old, h)
-      | inr new ↦ inr (subst (λ (v : LLVMType). IsIn m v u) new.1 h)
-    ]
-
-    pub among_more : (u : TypeTree) → IsAmong m (take i ts) u → IsAmong m (take (i + 1) ts) u
-    among_more u (k, t, at, h) = (k, t, ap (λ (us : List LLVMType). slice_get us k) (take_more ts i d lt) ∙ slice_get-kept (take i ts) (get_or ts i d ∷ []) k t at, h)
-
-    pub among_last : (u : TypeTree) → IsIn m (get_or ts i d) u → IsAmong m (take (i + 1) ts) u
-    among_last u h = (length (take i ts), get_or ts i d, ap (λ (us : List LLVMType). slice_get us (length (take i ts))) (take_more ts i d lt) ∙ slice_get-push (take i ts) (get_or ts i d) (length (take i ts)) refl, h)
-
     pub nests_here : (left : ℕ) → all_nest_at m ts left ≡ true → nests_at m (get_or ts i d) left ≡ true
     nests_here left h = each_at (nests (structs_of m) left) trees ts i d lt h
 

@@ -2,4 +2,5 @@
 pub mod TableLaws
 pub mod WalkLaws
 pub mod InsideLaws
+pub mod PlacedLaws
 pub mod ValueLaws

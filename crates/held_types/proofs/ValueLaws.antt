@@ -1,11 +1,12 @@
--- The types of the values of a module by their numbers: what functions return and take, and the types of results.
-use Rattle.std.proofs.Common.{ℕ, zero, suc, ◌≡◌, ◌<◌, ◌⊎◌, inl, inr, ◌∙◌, ◌+◌, refl, sym, ap, subst, Bool, true, false, List, [], Option, Some, None, All, length, map, slice_get, arith}
+-- The types of the values of a module by their numbers: what functions return and take, results, and constants that instructions use.
+use Rattle.std.proofs.Common.{ℕ, zero, suc, ◌≡◌, ◌<◌, ◌⊎◌, inl, inr, ◌∙◌, ◌+◌, refl, sym, ap, subst, Bool, true, false, List, [], ◌++◌, Option, Some, None, All, length, map, slice_get, arith}
 use Rattle.std.specs.Prelude.{nat_lt}
+use Rattle.std.specs.List.{flat_map}
 use Rattle.std.specs.Option.{option_map}
 use Rattle.std.proofs.lemmas.Bool.{ltb-true, ltb-false}
 use Rattle.std.proofs.lemmas.List.Elements.{All-head, All-tail}
 use Rattle.std.proofs.lemmas.Option.{same_Some, slice_get-map, slice_get_within}
-use Rattle.support.proofs.ListLaws.{item_there, slice_get-behind, slice_get-behind_cases, slice_get-kept}
+use Rattle.support.proofs.ListLaws.{item_there, slice_get-behind, slice_get-behind_cases, slice_get-kept, in_joined, from_joined}
 use Rattle.kinds.specs.declared.types.OtherType.{OtherType}
 use Rattle.kinds.specs.Types.{TypeTree, TypeTrees, NoTypes, ThenType, RefusedType, NamedType, FunctionType, result_of, params_of, types_list}
 use Rattle.kinds.specs.Held.{deepest}
@@ -13,29 +14,30 @@ use Rattle.kinds.specs.Structs.{Holds, IsNested, each_type, nests}
 use Rattle.kinds.proofs.NestLaws.{parts_nested}
 use Rattle.llvm_core.specs.declared.numbers.LLVMType.{LLVMType}
 use Rattle.llvm_core.specs.declared.numbers.LLVMStruct.{LLVMStruct}
-use Rattle.llvm_core.specs.declared.numbers.LLVMFunction.{LLVMFunction}
 use Rattle.llvm_core.specs.declared.types.LLVMTypeKind.{LLVMTypeKind}
 use Rattle.llvm_core.specs.declared.types.LLVMTypeKind.TheVariants as T
 use Rattle.llvm_core.specs.declared.code.FunctionData.{FunctionData}
 use Rattle.llvm_core.specs.declared.code.InstData.{InstData}
 use Rattle.llvm_core.specs.Module.{Module}
 use Rattle.llvm_core.specs.Sound.{IsModule}
-use Rattle.llvm_core.specs.Data.{Placed, Function, data_of, trees_of, structs_of, type_at, types_at, placed_in}
+use Rattle.llvm_core.specs.Data.{Placed, Function, data_of, trees_of, structs_of, type_at, types_at, operand_of, placed_in}
 use Rattle.llvm_core.specs.Depths.{nests_at, all_nest_at}
-use Rattle.llvm_core.specs.Form.{IsForm, value_types}
+use Rattle.llvm_core.specs.Parts.{operands}
+use Rattle.llvm_core.specs.Form.{IsForm, operands_of, constant_types, value_types}
 use Rattle.llvm_core.proofs.DataLemmas.{function_at, function_tree_of}
 use Rattle.llvm_core.proofs.DistinctLaws.{function_from}
-use Rattle.llvm_core.proofs.FormNested.{function_nests, result_nests}
-use Rattle.llvm_core.proofs.FormPlaces.{shown, own_inst, inst_place, function_there, in_home}
+use Rattle.llvm_core.proofs.FormNested.{function_nests, result_nests, same_operands}
+use Rattle.llvm_core.proofs.FormPlaces.{shown, own_inst}
 use Rattle.llvm_core.proofs.FormTypes.{function_typed, signature_of}
 use Rattle.held_types.specs.declared.held_structs.HeldErr.{HeldErr}
 use Rattle.held_types.specs.declared.held_structs.HeldErr.TheVariants as E
 use Rattle.held_types.specs.declared.walk.Walk.{Walk}
 use Rattle.held_types.specs.Held.{AreHeldStructs, HasTypeWith}
-use Rattle.held_types.specs.Values.{IsInSignature, IsInSignatures, IsInResult, IsInResults}
+use Rattle.held_types.specs.Values.{IsInSignature, IsInSignatures, IsInResult, IsInResults, IsInConstantsOf, IsInConstants}
 use Rattle.held_types.specs.Walk.{IsIn, IsAmong, IsCause, Walked}
 use Rattle.held_types.proofs.WalkLaws.{IsWithin, IsSplit, walked_both}
 use Rattle.held_types.proofs.InsideLaws.{listed_at, listed_from, field_at}
+use Rattle.held_types.proofs.PlacedLaws.{inst_placed, values_there, constant_shown, shown_constant}
 
 -- ---- what readers answer
 
@@ -121,30 +123,24 @@ module _ (m : Module) (sound : IsModule m) where
     pub taken_in : IsWithin (IsAmong m ps) (IsInSignature m f)
     taken_in u asked h = record { function = x; at = at; returned = r; params = ps; variadic = v; kind = kind; inside = inr h }
 
-  -- where the result of an instruction stands
-  pub record IsPlaced (i : ℕ) (z : InstData) : Type 0 where
-    pub f : ℕ
-    pub x : FunctionData
-    pub at : slice_get m.functions f ≡ Some x
-    pub k : ℕ
-    pub placed : Placed
-    pub here : slice_get (placed_in (shown m f x)) k ≡ Some placed
-    pub typed : placed.type ≡ type_at trees z.ty
-
-  pub inst_placed : (i : ℕ) (z : InstData) → slice_get m.insts i ≡ Some z → IsPlaced i z
-  inst_placed i z at =
-      let place = inst_place m i z sound at in
-      let x = function_there m z.block.0 place.block sound place.block_is in
-      let f = place.block.function.0 in
-      let k = in_home m f x.0 i z sound x.1 at (ap (λ (g : LLVMFunction). g.0) place.home_is) in
-      record { f = f; x = x.0; at = x.1; k = k.0; placed = _; here = k.1; typed = refl }
-
+  -- that of a result
   pub inst_nests : IsForm (data_of m) → (i : ℕ) (z : InstData) → slice_get m.insts i ≡ Some z → nests_at m z.ty deepest ≡ true
   inst_nests form i z at =
-      let p = inst_placed i z at in
+      let p = inst_placed m sound i z at in
       subst (IsNested (structs_of m)) p.typed (result_nests (data_of m) form.nested p.f (shown m p.f p.x) p.k p.placed (function_at m p.f p.x p.at) p.here)
 
   -- ---- what they hold is held by types of values
+
+  -- those of a function: of what it takes, of results, and of constants
+  module _ (g : Function) where
+    abbrev taken : List TypeTree
+    taken = params_of g.type
+
+    abbrev results : List TypeTree
+    results = map (λ (p : Placed). p.type) (placed_in g)
+
+    abbrev constants : List TypeTree
+    constants = flat_map constant_types (placed_in g)
 
   value_with : (f : ℕ) (x : FunctionData) (index : ℕ) (t u : TypeTree) → slice_get m.functions f ≡ Some x → slice_get (value_types (shown m f x)) index ≡ Some t → Holds (structs_of m) u t → HasTypeWith (data_of m) u
   value_with f x index t u at here holds = record { place = f; f = shown m f x; at = function_at m f x at; index = index; type = t; here = here; holds = holds }
@@ -152,25 +148,40 @@ module _ (m : Module) (sound : IsModule m) where
   pub signature_value : (f : ℕ) (u : TypeTree) → IsInSignature m f u → HasTypeWith (data_of m) u
   signature_value f u h =
       let x = h.function in
+      let g = shown m f x in
       let is = type_is f x h.returned h.params h.variadic h.at h.kind in
-      let results = map (λ (p : Placed). p.type) (placed_in (shown m f x)) in
       elim h.inside [
         | inl i ↦ value_with f x 0 (type_at trees h.returned) u h.at (ap (λ (t : TypeTree). Some (result_of t)) is) i
         | inr i ↦ (
-            let here : slice_get (params_of (shown m f x).type) i.0 ≡ Some (type_at trees i.1) = ap (λ (t : TypeTree). slice_get (params_of t) i.0) is ∙ listed_at trees h.params i.0 i.1 i.2 in
-            value_with f x (suc i.0) (type_at trees i.1) u h.at (slice_get-kept (params_of (shown m f x).type) results i.0 (type_at trees i.1) here) i.3
+            let here : slice_get (taken g) i.0 ≡ Some (type_at trees i.1) = ap (λ (t : TypeTree). slice_get (params_of t) i.0) is ∙ listed_at trees h.params i.0 i.1 i.2 in
+            let kept = slice_get-kept (taken g) (results g) i.0 (type_at trees i.1) here in
+            value_with f x (suc i.0) (type_at trees i.1) u h.at (slice_get-kept (taken g ++ results g) (constants g) i.0 (type_at trees i.1) kept) i.3
             )
       ]
 
   pub result_value : (i : ℕ) (u : TypeTree) → IsInResult m i u → HasTypeWith (data_of m) u
   result_value i u (z, at, h) =
-      let p = inst_placed i z at in
+      let p = inst_placed m sound i z at in
       let g = shown m p.f p.x in
-      let there : slice_get (map (λ (q : Placed). q.type) (placed_in g)) p.k ≡ Some (type_at trees z.ty) =
-      slice_get-map (λ (q : Placed). q.type) (placed_in g) p.k ∙ ap (option_map (λ (q : Placed). q.type)) p.here ∙ ap Some p.typed in
-      value_with p.f p.x (suc (length (params_of g.type) + p.k)) (type_at trees z.ty) u p.at (slice_get-behind (params_of g.type) (map (λ (q : Placed). q.type) (placed_in g)) p.k ∙ there) h
+      let there : slice_get (results g) p.k ≡ Some (type_at trees z.ty) = slice_get-map (λ (q : Placed). q.type) (placed_in g) p.k ∙ ap (option_map (λ (q : Placed). q.type)) p.here ∙ ap Some p.typed in
+      let index = length (taken g) + p.k in
+      let kept = slice_get-kept (taken g ++ results g) (constants g) index (type_at trees z.ty) (slice_get-behind (taken g) (results g) p.k ∙ there) in
+      value_with p.f p.x (suc index) (type_at trees z.ty) u p.at kept h
+
+  pub constants_value : (i : ℕ) (u : TypeTree) → IsInConstantsOf m i u → HasTypeWith (data_of m) u
+  constants_value i u (z, at, h) =
+      let p = inst_placed m sound i z at in
+      let g = shown m p.f p.x in
+      let c = constant_shown m sound u z p.placed p.used h in
+      let among = in_joined constant_types (placed_in g) p.k c.0 p.placed c.1 p.here c.2 in
+      let index = length (taken g ++ results g) + among.0 in
+      value_with p.f p.x (suc index) c.1 u p.at (slice_get-behind (taken g ++ results g) (constants g) among.0 ∙ among.1) c.3
 
   -- ---- and a type of a value is one of them
+
+  -- of what instructions give or use
+  abbrev IsInCode : TypeTree → Type 0
+  IsInCode u = IsInResults m (length m.insts) u ⊎ IsInConstants m (length m.insts) u
 
   module _ (f : ℕ) (x : FunctionData) (at : slice_get m.functions f ≡ Some x) (u t : TypeTree) (holds : Holds (structs_of m) u t) where
     abbrev g : Function
@@ -186,7 +197,16 @@ module _ (m : Module) (sound : IsModule m) where
         let same : t ≡ type_at trees own.inst.ty = sym (same_Some p.type t e) ∙ ap (λ (q : Placed). q.type) own.shown_as in
         (own.number, slice_get_within m.insts own.number own.inst own.here, (own.inst, own.here, subst (Holds (structs_of m) u) same holds))
 
-    from_place : (index : ℕ) → slice_get (value_types g) index ≡ Some t → IsInSignatures m (length m.functions) u ⊎ IsInResults m (length m.insts) u
+    from_constants : (k : ℕ) → slice_get (constants g) k ≡ Some t → IsInConstants m (length m.insts) u
+    from_constants k is =
+        let part = from_joined constant_types (placed_in g) k t is in
+        let own = own_inst m f x part.0 part.2 sound at part.3 in
+        let z = own.inst in
+        let used : operands_of part.2.instruction ≡ map (operand_of (trees_of m)) (operands z.inst) = ap (λ (p : Placed). operands_of p.instruction) own.shown_as ∙ same_operands m z.inst in
+        let there = values_there m z.inst (sound.insts own.number z own.here).values in
+        (own.number, slice_get_within m.insts own.number z own.here, (z, own.here, shown_constant m sound u z part.2 used there part.1 t part.4 holds))
+
+    from_place : (index : ℕ) → slice_get (value_types g) index ≡ Some t → IsInSignatures m (length m.functions) u ⊎ IsInCode u
     from_place index here =
         let typed = function_typed m f x sound at in
         let s = signature_of m f x typed.0 typed.1 typed.2 sound at typed.3 in
@@ -194,19 +214,22 @@ module _ (m : Module) (sound : IsModule m) where
         by s.returned s.params s.variadic s.kind_is is index here
       where
         by : (r : LLVMType) (ps : List LLVMType) (v : Bool) → slice_get m.types x.ty.0 ≡ Some (T.Function r ps v) → g.type ≡ FunctionType (type_at trees r) (types_at trees ps) v → (index : ℕ) → slice_get (value_types g) index ≡ Some t
-            → IsInSignatures m (length m.functions) u ⊎ IsInResults m (length m.insts) u
+            → IsInSignatures m (length m.functions) u ⊎ IsInCode u
         by r ps v kind is zero here =
             let same : t ≡ type_at trees r = sym (same_Some (result_of g.type) t here) ∙ ap result_of is in
             inl (from_signature r ps v kind (inl (subst (Holds (structs_of m) u) same holds)))
-        by r ps v kind is (suc index) here = elim (slice_get-behind_cases (params_of g.type) (map (λ (q : Placed). q.type) (placed_in g)) index t here) [
-          | inl param ↦ (
-              let p = listed_from trees ps index t (ap (λ (w : TypeTree). slice_get (params_of w) index) (sym is) ∙ param) in
-              inl (from_signature r ps v kind (inr (index, p.0, p.1, subst (Holds (structs_of m) u) (sym p.2) holds)))
-              )
-          | inr result ↦ inr (from_placed result.0 (slice_get (placed_in g) result.0) refl (sym (slice_get-map (λ (q : Placed). q.type) (placed_in g) result.0) ∙ result.2))
+        by r ps v kind is (suc index) here = elim (slice_get-behind_cases (taken g ++ results g) (constants g) index t here) [
+          | inl other ↦ elim (slice_get-behind_cases (taken g) (results g) index t other) [
+            | inl param ↦ (
+                let p = listed_from trees ps index t (ap (λ (w : TypeTree). slice_get (params_of w) index) (sym is) ∙ param) in
+                inl (from_signature r ps v kind (inr (index, p.0, p.1, subst (Holds (structs_of m) u) (sym p.2) holds)))
+                )
+            | inr result ↦ inr (inl (from_placed result.0 (slice_get (placed_in g) result.0) refl (sym (slice_get-map (λ (q : Placed). q.type) (placed_in g) result.0) ∙ result.2)))
+          ]
+          | inr constant ↦ inr (inr (from_constants constant.0 constant.2))
         ]
 
-  pub value_from : IsSplit (HasTypeWith (data_of m)) (IsInSignatures m (length m.functions)) (IsInResults m (length m.insts))
+  pub value_from : IsSplit (HasTypeWith (data_of m)) (IsInSignatures m (length m.functions)) IsInCode
   value_from u asked h =
       let x = function_from m h.place h.f h.at in
       from_place h.place x.0 x.1 u h.type h.holds h.index (ap (λ (g : Function). slice_get (value_types g) h.index) (sym x.2) ∙ h.here)
@@ -217,10 +240,18 @@ module _ (m : Module) (sound : IsModule m) where
   pub results_in : IsWithin (IsInResults m (length m.insts)) (HasTypeWith (data_of m))
   results_in u asked (i, lt, h) = result_value i u h
 
+  pub constants_in : IsWithin (IsInConstants m (length m.insts)) (HasTypeWith (data_of m))
+  constants_in u asked (i, lt, h) = constants_value i u h
+
+  code_in : IsWithin IsInCode (HasTypeWith (data_of m))
+  code_in u asked h = elim h [ inl result ↦ results_in u asked result | inr constant ↦ constants_in u asked constant ]
+
   -- ---- the whole walk
 
-  pub whole_walk : (a b c : Walk) → Walked m (IsInSignatures m (length m.functions)) a b → Walked m (IsInResults m (length m.insts)) b c → Walked m (HasTypeWith (data_of m)) a c
-  whole_walk a b c h g = walked_both m (IsInSignatures m (length m.functions)) (IsInResults m (length m.insts)) (HasTypeWith (data_of m)) a b c h g value_from signatures_in results_in
+  pub whole_walk : (a b c e : Walk) → Walked m (IsInSignatures m (length m.functions)) a b → Walked m (IsInResults m (length m.insts)) b c → Walked m (IsInConstants m (length m.insts)) c e → Walked m (HasTypeWith (data_of m)) a e
+  whole_walk a b c e h g k =
+      let code = walked_both m (IsInResults m (length m.insts)) (IsInConstants m (length m.insts)) IsInCode b c e g k (λ u asked w. w) (λ u asked w. inl w) (λ u asked w. inr w) in
+      walked_both m (IsInSignatures m (length m.functions)) IsInCode (HasTypeWith (data_of m)) a b e h code value_from signatures_in code_in
 
 -- the answer of a walk through all of them
 pub held_by_walk : (m : Module) (a c : Walk) → a.order.items ≡ [] → Walked m (HasTypeWith (data_of m)) a c → AreHeldStructs (data_of m) c.order.items

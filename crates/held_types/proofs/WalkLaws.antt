@@ -51,6 +51,9 @@ pub cause_as : (W V : TypeTree → Type 0) → IsWithin W V → (e : HeldErr) �
 cause_as W V to (E.Lacks of) c = to (RefusedType of) tt c
 cause_as W V to E.NoMemory c = tt
 
+pub err_as : {T : Type 0} (W V : TypeTree → Type 0) (r : R.Result T HeldErr) → IsWithin W V → IfErr r (IsCause W) → IfErr r (IsCause V)
+err_as W V r to = if_err_as r (IsCause W) (IsCause V) (cause_as W V to)
+
 module _ (m : Module) where
   -- ---- what is met
 
@@ -85,6 +88,10 @@ module _ (m : Module) where
     met = met_as W V b.order.items from h.met;
     each = λ i n at. elim (h.each i n at) [ inl old ↦ inl old | inr new ↦ inr (new.0, new.1, to (NamedType new.0) tt new.2) ];
   }
+
+  -- and so of what a call answers
+  pub ok_as : {E : Type 0} (W V : TypeTree → Type 0) (r : R.Result (Unit {0}) E) (a b : Walk) → IsWithin W V → IsWithin V W → R.OnOk r (Walked m W a b) → R.OnOk r (Walked m V a b)
+  ok_as W V r a b to from = on_ok_as r (walked_as W V a b to from)
 
   -- one after the other
   pub walked_both : (V U W : TypeTree → Type 0) (a b c : Walk) → Walked m V a b → Walked m U b c → IsSplit W V U → IsWithin V W → IsWithin U W → Walked m W a c

@@ -7,8 +7,8 @@ use Rattle.llvm_core.specs.declared.numbers.LLVMStruct.{LLVMStruct}
 use Rattle.llvm_core.specs.Data.{Function, ModuleData}
 use Rattle.llvm_core.specs.Form.{value_types}
 
--- a type of what a function of the module returns or takes, or of the result of one of its instructions, is that one or holds it,
--- through the fields of structs too
+-- a type of what a function of the module returns or takes, of the result of one of its instructions, or of a constant that one
+-- uses, is that one or holds it, through the fields of structs too
 pub record HasTypeWith (d : ModuleData) (u : TypeTree) : Type 0 where
   pub place : ℕ
   pub f : Function

@@ -21,9 +21,14 @@ use Rattle.held_types.specs.Held.{IsStructOf}
 abbrev pub IsIn : Module → LLVMType → TypeTree → Type 0
 IsIn m t u = Holds (structs_of m) u (type_at (trees_of m).types t)
 
+-- of one of them P holds
+module _ {X : Type 0} (P : X → TypeTree → Type 0) where
+  abbrev pub IsOfOne : List X → TypeTree → Type 0
+  IsOfOne xs u = (i : ℕ) × (x : X) × (slice_get xs i ≡ Some x) × P x u
+
 -- one of the types is or does
 abbrev pub IsAmong : Module → List LLVMType → TypeTree → Type 0
-IsAmong m ts u = (i : ℕ) × (t : LLVMType) × (slice_get ts i ≡ Some t) × IsIn m t u
+IsAmong m ts u = IsOfOne (IsIn m) ts u
 
 -- a type of that kind is or does
 abbrev pub IsInKind : Module → LLVMTypeKind → TypeTree → Type 0

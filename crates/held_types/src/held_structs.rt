@@ -11,6 +11,7 @@ ghost use Rattle.held_types.specs.Values.{IsInResult, IsInResults, IsInSignature
 ghost use Rattle.held_types.specs.Walk.{IsCause, IsWalk, Walked};
 ghost use Rattle.held_types.specs.declared.held_structs.HeldErr.TheVariants as reasons;
 
+use crate::constants::walk_constants;
 use crate::table::{Table, table_of};
 use crate::walk::{Walk, start, visit, visit_all};
 use kinds::types::{OtherType, deepest};
@@ -132,5 +133,6 @@ pub fn held_structs(alloc: Global, source: &LLVMModule) -> Result<Vec<LLVMStruct
     let mut walk = start(alloc, source)?;
     walk_signatures(source, &table, &mut walk)?;
     walk_results(source, &table, &mut walk)?;
+    walk_constants(source, &table, &mut walk)?;
     Ok(walk.order)
 }

@@ -1,15 +1,13 @@
 -- How deep types nest through the fields of structs.
-use Rattle.std.proofs.Common.{arith, ◌≡◌, ◌≤◌, ◌+◌, ◌-◌, max, ℕ, zero, suc, Bool, true, false, ◌&&◌, ◌||◌, refl, ap, subst, sym, List, [], ◌∷◌, ◌++◌, All, Option, Some, None, if◌then◌else◌}
+use Rattle.std.proofs.Common.{arith, ◌≡◌, ◌≤◌, ◌+◌, ◌-◌, ℕ, zero, suc, Bool, true, false, refl, ap, subst, sym, List, [], ◌∷◌, ◌++◌, All, Option, Some, None, if◌then◌else◌}
 use Rattle.std.specs.Option.{option_map_or}
 use Rattle.std.specs.Str.{bytes_eq}
 use Rattle.std.proofs.lemmas.Slice.Eq.{bytes_eq-Decides}
-use Rattle.std.proofs.lemmas.List.Elements.{All-nil, All-cons, All-head, All-tail}
-use Rattle.kinds.specs.Types.{TypeTree, VoidType, IntType, PointerType, FloatingType, RefusedType, ArrayType, VectorType, StructType, NamedType, FunctionType, TypeTrees, NoTypes, ThenType, shape, types_list, parts_of, depth, depths}
-use Rattle.kinds.specs.Fitting.{is_held, is_field, is_array_of, is_vector_of}
-use Rattle.kinds.specs.Held.{is_void, deepest, too_deep, throughout, each_throughout, IsShallow, IsHeldResult}
+use Rattle.std.proofs.lemmas.List.Elements.{All-nil, All-cons}
+use Rattle.kinds.specs.Types.{TypeTree, VoidType, IntType, PointerType, FloatingType, RefusedType, ArrayType, VectorType, StructType, NamedType, FunctionType, TypeTrees, NoTypes, ThenType, types_list, parts_of, depth, depths}
+use Rattle.kinds.specs.Held.{deepest, too_deep, IsShallow}
 use Rattle.kinds.specs.Structs.{StructBody, Struct, struct_in, each_type, each_field, nests, IsNested}
 use Rattle.kinds.proofs.TypeLaws.{and_left, and_right}
-use Rattle.kinds.proofs.HeldLaws.{void_is}
 
 -- a test that passes where another does passes on each where that one does
 pub each_weaker : (p q : TypeTree → Bool) → ((t : TypeTree) → p t ≡ true → q t ≡ true) → (ts : TypeTrees) → each_type p ts ≡ true → each_type q ts ≡ true

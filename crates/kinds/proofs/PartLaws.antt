@@ -1,5 +1,5 @@
 -- What is asked of the parts of a type: from the type to its parts, and from one test to a weaker one.
-use Rattle.std.proofs.Common.{nat_le, nat_lt, not, ◌^◌, ◌≡◌, ℕ, zero, suc, Bool, true, false, ◌&&◌, refl, sym, ap, ◌∙◌, List, [], ◌∷◌, Option, Some, None, All, slice_get, inl, inr, ◌⊎◌}
+use Rattle.std.proofs.Common.{nat_le, nat_lt, not, ◌^◌, ◌≡◌, ℕ, zero, suc, Bool, true, false, ◌&&◌, refl, List, [], ◌∷◌, Option, Some, None, All, slice_get, inl, inr, ◌⊎◌}
 use Rattle.std.specs.Option.{option_or}
 use Rattle.std.proofs.lemmas.List.Elements.{All-nil, All-cons, All-head, All-tail}
 use Rattle.kinds.specs.declared.fitting.Shape.{Shape}

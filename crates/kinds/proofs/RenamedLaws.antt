@@ -1,12 +1,12 @@
 -- Types under other names of structs: what stays of them, and how deep they nest.
-use Rattle.std.proofs.Common.{arith, ◌≡◌, ◌≤◌, ◌+◌, ℕ, zero, suc, Bool, true, false, ◌&&◌, ◌||◌, refl, ap, sym, subst, ◌∙◌, max, map, List, [], ◌∷◌, Option, Some, None, slice_get, inl, inr, ◌⊎◌, if◌then◌else◌}
-use Rattle.std.specs.Option.{option_map, option_map_or, option_or}
+use Rattle.std.proofs.Common.{◌≡◌, ◌+◌, ℕ, zero, suc, Bool, true, false, refl, ap, sym, subst, ◌∙◌, map, List, ◌∷◌, Option, Some, None, slice_get, inl, inr, if◌then◌else◌}
+use Rattle.std.specs.Option.{option_map, option_map_or}
 use Rattle.kinds.specs.declared.types.OtherType.{OtherType}
 use Rattle.kinds.specs.declared.fitting.Shape.{Shape}
 use Rattle.kinds.specs.Types.{TypeTree, VoidType, IntType, PointerType, FloatingType, RefusedType, ArrayType, VectorType, StructType, NamedType, FunctionType, TypeTrees, NoTypes, ThenType, shape, types_list, parts_of, result_of, takes_of, params_of, depth, depths, count_types}
-use Rattle.kinds.specs.Fitting.{is_first_class, is_held, is_field, is_array_of, is_vector_of}
+use Rattle.kinds.specs.Fitting.{is_first_class, is_held}
 use Rattle.kinds.specs.Held.{is_void, own_type, width_in, too_deep, throughout, each_throughout, IsShallow, IsFirstClass, IsReturned, IsHeld, IsHeldResult, refused_of, refused_in}
-use Rattle.kinds.specs.Structs.{StructBody, Struct, struct_in, each_type, each_field, nests, IsNested, renamed, renamed_all, renamed_body, renamed_struct, Holds, Itself, InPart, InField}
+use Rattle.kinds.specs.Structs.{StructBody, Struct, struct_in, each_type, each_field, nests, renamed, renamed_all, renamed_body, renamed_struct, Holds, Itself, InPart, InField}
 use Rattle.kinds.proofs.TypeLaws.{and_left, and_right}
 use Rattle.kinds.proofs.PartLaws.{or_some}
 

@@ -35,6 +35,17 @@ is_number S.Made = false
 is_number S.Named = false
 is_number S.Function = false
 
+-- a pointer, whose zero is null
+abbrev pub is_pointer : Shape → Bool
+is_pointer S.Void = false
+is_pointer (S.Int w) = false
+is_pointer (S.Pointer space) = true
+is_pointer S.Other = false
+is_pointer (S.Refused of) = false
+is_pointer S.Made = false
+is_pointer S.Named = false
+is_pointer S.Function = false
+
 -- i1
 abbrev pub is_bit : Shape → Bool
 is_bit S.Void = false

@@ -1,9 +1,9 @@
 -- What types stand where: those of values, those that are translated, those of functions.
-use Rattle.std.specs.Prelude.{◌≡◌, ◌≤◌, ℕ, List, Bool, true, false, ◌&&◌, ◌||◌, nat_lt, if◌then◌else◌, Option, Some, None, All, slice_get}
+use Rattle.std.specs.Prelude.{◌≡◌, ◌≤◌, ℕ, Bool, true, false, ◌&&◌, ◌||◌, nat_lt, if◌then◌else◌, Option, Some, None, All}
 use Rattle.std.specs.Option.{option_or}
 use Rattle.kinds.specs.declared.types.OtherType.{OtherType}
 use Rattle.kinds.specs.declared.fitting.Shape.{Shape}
-use Rattle.kinds.specs.Types.{TypeTree, TypeTrees, NoTypes, ThenType, RefusedType, ArrayType, VectorType, StructType, NamedType, FunctionType, shape, types_list, parts_of, depth}
+use Rattle.kinds.specs.Types.{TypeTree, TypeTrees, NoTypes, ThenType, RefusedType, ArrayType, VectorType, StructType, FunctionType, shape, types_list, depth}
 use Rattle.kinds.specs.Fitting.{is_nothing, is_first_class, is_held, is_field, is_array_of, is_vector_of, width_of}
 
 -- ---- no value

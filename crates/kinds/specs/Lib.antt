@@ -3,6 +3,7 @@ pub mod Types
 pub mod Rules
 pub mod Table
 pub mod Fitting
+pub mod Fill
 pub mod Typing
 pub mod Held
 pub mod Structs

@@ -1,7 +1,7 @@
 //! Whether operands fit a row: one evaluator of the table's words, for either side.
 
 ghost use Rattle.std.specs.Prelude.{◌≡◌};
-ghost use Rattle.kinds.specs.Fitting.{fit, is_same, is_wider, is_written, takes_fit, fits, view_same, view_shape, is_value, is_number, is_bit, is_nothing, is_function, is_first_class, is_held, is_token, is_amx, is_made, is_field, is_array_of, is_vector_of};
+ghost use Rattle.kinds.specs.Fitting.{fit, is_same, is_wider, is_written, takes_fit, fits, view_same, view_shape, is_value, is_number, is_pointer, is_bit, is_nothing, is_function, is_first_class, is_held, is_token, is_amx, is_made, is_field, is_array_of, is_vector_of};
 
 use crate::rules::{Fit, Gives, Rule, Takes};
 use crate::types::OtherType;
@@ -55,13 +55,30 @@ pub fn is_value(shape: Shape) -> bool
     }
 }
 
-fn is_number(shape: Shape) -> bool
+/// An integer type.
+pub fn is_number(shape: Shape) -> bool
     ensures { result ≡ is_number shape }
 {
     match shape {
         Shape::Void => false,
         Shape::Int(_) => true,
         Shape::Pointer(_) => false,
+        Shape::Other => false,
+        Shape::Refused(_) => false,
+        Shape::Made => false,
+        Shape::Named => false,
+        Shape::Function => false,
+    }
+}
+
+/// A pointer, whose zero is null.
+pub fn is_pointer(shape: Shape) -> bool
+    ensures { result ≡ is_pointer shape }
+{
+    match shape {
+        Shape::Void => false,
+        Shape::Int(_) => false,
+        Shape::Pointer(_) => true,
         Shape::Other => false,
         Shape::Refused(_) => false,
         Shape::Made => false,

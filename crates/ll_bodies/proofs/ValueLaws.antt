@@ -131,6 +131,7 @@ real_const m s c lt e = by (item_there m.consts c lt).0 (item_there m.consts c l
         let none : IntConst w.0 v ≡ no_const = sym int ∙ sym told ∙ e in
         let zero : w.0 ≡ 0 = cc (none) in
         absurd (omega (arith, zero, (s.types t.0 (T.Int w.0) w.1).0))
+    by (C.Filled fill t) at = let told = const_tree_of m (record { 0 = c }) (C.Filled fill t) at in absurd (cc (told, e))
     by (C.Placeholder number t) at = let told = const_tree_of m (record { 0 = c }) (C.Placeholder number t) at in absurd (cc (told, e))
 
 -- a constant that reads as one that is there is there

@@ -8,7 +8,7 @@ use Rattle.support.specs.Interned.{IsDistinctList}
 use Rattle.support.proofs.ListLaws.{distinct_rest}
 use Rattle.kinds.specs.Structs.{IsNested}
 use Rattle.llvm_core.specs.Data.{TypeTree, NamedType, Placed, Block, Function, Struct, ModuleData, placed_in}
-use Rattle.llvm_core.specs.Form.{IsFormFunction, IsForm, types_in, local_names, HasDistinctNames, IsFewIn, HasFew}
+use Rattle.llvm_core.specs.Form.{IsFormFunction, IsForm, constant_types, types_in, local_names, HasDistinctNames, IsFewIn, HasFew}
 use Rattle.llvm_core.proofs.DataLemmas.{within_at}
 use Rattle.ll_literals.specs.Text.{Text}
 use Rattle.ll_literals.specs.Numbers.{number_limit}
@@ -23,6 +23,7 @@ use Rattle.ll_said.proofs.AlikeForm.{function_alike}
 use Rattle.ll_said.proofs.AlikeLists.{locals_alike, few_alike}
 use Rattle.ll_said.proofs.AlikeSaid.{function_same, unnamed_count}
 use Rattle.ll_said.proofs.AllLaws.{all_at}
+use Rattle.ll_said.proofs.ConstantLaws.{twins_constants}
 use Rattle.ll_said.proofs.CountingLaws.{IsCounted, AreCounted, placed_number, block_number, count_placed, counted_map, counted_distinct, counted_blocks, counted_through, uncounted}
 use Rattle.ll_said.proofs.FileLaws.{file_says}
 use Rattle.ll_said.proofs.PairLaws.{FunctionsAlike, block_numbers, result_numbers}
@@ -161,8 +162,11 @@ same_text d h = ap (λ (fs : List L.Function). let m : L.File = record { source 
 same_types : (d : ModuleData) → types_in (numbered d) ≡ types_in d
 same_types d =
     let names = map (λ (s : Struct). NamedType s.name) d.structs in
-    ap (λ (ts : List TypeTree). (names ++ ts) ++ types_of (flat_map placed_in (numbered d).functions)) (twins_typed 0 0 0 d.functions)
-    ∙ ap (λ (ts : List TypeTree). (names ++ map (λ (x : Function). x.type) d.functions) ++ ts) (twins_placed 0 0 0 d.functions)
+    let signatures = map (λ (x : Function). x.type) d.functions in
+    let twins = flat_map placed_in (numbered d).functions in
+    ap (λ (ts : List TypeTree). names ++ ts ++ types_of twins ++ flat_map constant_types twins) (twins_typed 0 0 0 d.functions)
+    ∙ ap (λ (ts : List TypeTree). names ++ signatures ++ ts ++ flat_map constant_types twins) (twins_placed 0 0 0 d.functions)
+    ∙ ap (λ (ts : List TypeTree). names ++ signatures ++ types_of (flat_map placed_in d.functions) ++ ts) (twins_constants 0 0 0 d.functions)
 
 keeps_nested : (d : ModuleData) → All (IsNested d.structs) (types_in d) → All (IsNested d.structs) (types_in (numbered d))
 keeps_nested d h = subst (λ (ts : List TypeTree). All (IsNested d.structs) ts) (sym (same_types d)) h

@@ -1,47 +1,127 @@
 -- What a literal says at a type.
-use Rattle.std.proofs.Common.{◌≡◌, ◌≢◌, ◌≤◌, ℕ, nat_le, Bool, true, false, List, Option, Some, None, slice_get, refl, ap, ◌∙◌, arith}
+use Rattle.std.proofs.Common.{◌≡◌, ◌≢◌, ◌<◌, ◌≤◌, ℕ, nat_le, Bool, true, false, if◌then◌else◌, List, Option, Some, None, length, slice_get, refl, ap, sym, ◌∙◌, arith}
+use Rattle.std.specs.Prelude.{IfSome, IfOk, Result, Ok, Err}
 use Rattle.std.specs.Bool.{then_some}
-use Rattle.std.specs.Option.{option_map}
-use Rattle.kinds.specs.Types.{TypeTree, IntType}
+use Rattle.std.specs.Option.{option_map, option_map_or}
+use Rattle.std.proofs.lemmas.Option.{slice_get_within}
+use Rattle.kinds.specs.declared.fill.Fill.{Fill}
+use Rattle.kinds.specs.declared.fill.Fill.TheVariants as F
+use Rattle.kinds.specs.declared.fitting.Shape.{Shape}
+use Rattle.kinds.specs.declared.fitting.Shape.TheVariants as S
+use Rattle.kinds.specs.Fill.{is_own_fill}
+use Rattle.kinds.specs.Fitting.{is_pointer}
+use Rattle.kinds.specs.Types.{TypeTree, IntType, shape}
 use Rattle.kinds.specs.Held.{width_in}
 use Rattle.llvm_core.specs.declared.numbers.LLVMType.{LLVMType}
 use Rattle.llvm_core.specs.declared.numbers.LLVMConst.{LLVMConst}
 use Rattle.llvm_core.specs.declared.types.LLVMTypeKind.{LLVMTypeKind}
 use Rattle.llvm_core.specs.declared.types.LLVMTypeKind.TheVariants as T
+use Rattle.llvm_core.specs.declared.consts.LLVMConstKind.{LLVMConstKind}
 use Rattle.llvm_core.specs.declared.consts.LLVMConstKind.TheVariants as C
 use Rattle.llvm_core.specs.Module.{Module}
+use Rattle.llvm_core.specs.Parts.{one_form, shape_of, shape_at}
 use Rattle.llvm_core.specs.Sound.{IsModule}
-use Rattle.llvm_core.specs.Data.{IntConst, trees_of, type_at, const_at}
-use Rattle.llvm_core.proofs.DataLemmas.{type_tree_of, int_tree_of, int_const_of}
+use Rattle.llvm_core.specs.Data.{ConstTree, IntConst, FilledConst, trees_of, type_trees, type_at, const_at, const_tree, filled_const}
+use Rattle.llvm_core.proofs.DataLemmas.{type_tree_of, int_tree_of, const_tree_of}
+use Rattle.llvm_core.proofs.RuleLaws.{shape_kept}
+use Rattle.llvm_core.proofs.WholeTypes.{shape_there}
 use Rattle.ll_literals.specs.Literals.{const_value}
 use Rattle.ll_lines.specs.Lines.{Text, Const}
-use Rattle.ll_values.specs.Values.{said, ConstL}
+use Rattle.ll_lines.specs.declared.lines.Said.{Said}
+use Rattle.ll_lines.specs.Views.{said_view}
+use Rattle.ll_values.specs.declared.value_err.ValueErr.{ValueErr}
+use Rattle.ll_values.specs.Words.{fill_of}
+use Rattle.ll_values.specs.Values.{int_const, const_of, null_of}
+
+-- ---- integers
 
 -- at an integer type of at most 64 bits
-pub said_int : (w : ℕ) (t : Text) → w ≤ 64 → said (IntType w) (ConstL t) ≡ option_map (λ n. Const (IntConst w n)) (const_value w t)
-said_int w t h = let e : nat_le w 64 ≡ true = grind (arith, h) in rw e refl
+int_const-small : (w : ℕ) (t : Text) → w ≤ 64 → int_const (IntType w) t ≡ option_map (IntConst w) (const_value w t)
+int_const-small w t h = let e : nat_le w 64 ≡ true = grind (arith, h) in rw e refl
 
 -- at a type that is no integer of at most 64 bits
-pub said_bounded : (m : Module) (ty : LLVMType) (w : ℕ) (r : Option ℕ) → IsModule m → slice_get m.types ty.0 ≡ Some (T.Int w) → r ≡ then_some (nat_le w 64) w → r ≡ None → (t : Text) → said (type_at (trees_of m).types ty) (ConstL t) ≡ None
-said_bounded m ty w r s at is none t = by (nat_le w 64) refl
+pub int_const-bounded : (m : Module) (ty : LLVMType) (w : ℕ) (r : Option ℕ) → IsModule m → slice_get m.types ty.0 ≡ Some (T.Int w) → r ≡ then_some (nat_le w 64) w → r ≡ None → (t : Text) → int_const (type_at (trees_of m).types ty) t ≡ None
+int_const-bounded m ty w r s at is none t = by (nat_le w 64) refl
   where
-    by : (b : Bool) → nat_le w 64 ≡ b → said (type_at (trees_of m).types ty) (ConstL t) ≡ None
+    by : (b : Bool) → nat_le w 64 ≡ b → int_const (type_at (trees_of m).types ty) t ≡ None
     by true e = absurd (cc (is, none, e))
     by false e = rw (type_tree_of m ty (T.Int w) s at, e) refl
 
 -- at a type that is no integer
-pub said_at_other : (m : Module) (ty : LLVMType) (k : LLVMTypeKind) → IsModule m → slice_get m.types ty.0 ≡ Some k → ((w : ℕ) → k ≢ T.Int w) → (t : Text) → said (type_at (trees_of m).types ty) (ConstL t) ≡ None
-said_at_other m ty (T.Int w) s at other t = absurd (other w refl)
-said_at_other m ty k s at other t = rw (type_tree_of m ty k s at) refl
+pub int_const-other : (m : Module) (ty : LLVMType) (k : LLVMTypeKind) → IsModule m → slice_get m.types ty.0 ≡ Some k → ((w : ℕ) → k ≢ T.Int w) → (t : Text) → int_const (type_at (trees_of m).types ty) t ≡ None
+int_const-other m ty (T.Int w) s at other t = absurd (other w refl)
+int_const-other m ty k s at other t = rw (type_tree_of m ty k s at) refl
 
-pub said_const : (m n : Module) (ty : LLVMType) (c : LLVMConst) (w value : ℕ) (t : Text) → IsModule m → IsModule n → slice_get m.types ty.0 ≡ Some (T.Int w) → w ≤ 64 → const_value w t ≡ Some value → n.types ≡ m.types
-    → slice_get n.consts c.0 ≡ Some (C.Int ty value) → said (type_at (trees_of m).types ty) (ConstL t) ≡ Some (Const (const_at (trees_of n).consts c))
-said_const m n ty c w value t s r at small is same here =
-    let int : type_at (trees_of m).types ty ≡ IntType w = int_tree_of m ty w s at in
-    let there : slice_get n.types ty.0 ≡ Some (T.Int w) = ap (λ (ts : List LLVMTypeKind). slice_get ts ty.0) same ∙ at in
-    let new : type_at (trees_of n).types ty ≡ IntType w = int_tree_of n ty w r there in
-    let tree : const_at (trees_of n).consts c ≡ IntConst w value = int_const_of n c ty value here ∙ ap (λ (τ : TypeTree). IntConst (width_in τ) value) new in
-    rw (int, tree) (said_int w t small ∙ ap (option_map (λ (k : ℕ). Const (IntConst w k))) is)
+-- at an integer type of the module, by what the digits are
+pub int_const-read : (m : Module) (ty : LLVMType) (w : ℕ) (t : Text) (o : Option ℕ) → IsModule m → slice_get m.types ty.0 ≡ Some (T.Int w) → w ≤ 64 → const_value w t ≡ o
+    → int_const (type_at (trees_of m).types ty) t ≡ option_map (λ v. const_tree (trees_of m).types (trees_of m).consts (C.Int ty v)) o
+int_const-read m ty w t o s at small is = rw (int_tree_of m ty w s at) (int_const-small w t small ∙ ap (option_map (IntConst w)) is)
 
-pub said_no_const : (m : Module) (ty : LLVMType) (w : ℕ) (t : Text) → IsModule m → slice_get m.types ty.0 ≡ Some (T.Int w) → w ≤ 64 → const_value w t ≡ None → said (type_at (trees_of m).types ty) (ConstL t) ≡ None
-said_no_const m ty w t s at small is = rw (int_tree_of m ty w s at) (said_int w t small ∙ ap (option_map (λ (k : ℕ). Const (IntConst w k))) is)
+-- ---- constants of any type
+
+-- zero, undef or poison of a type is in the module what it is in one form
+pub filled_tree : (m : Module) (cs : List ConstTree) (fill : Fill) (t : LLVMType) → IsModule m → t.0 < length m.types → const_tree (trees_of m).types cs (one_form m.types (C.Filled fill t)) ≡ filled_const fill (type_at (trees_of m).types t)
+filled_tree m cs fill t s within =
+    by (is_own_fill fill (shape_at m.types t)) ∙ ap (λ (x : Shape). if is_own_fill fill x then FilledConst fill (type_at (trees_of m).types t) else IntConst (width_in (type_at (trees_of m).types t)) 0) (shape_there m s t within)
+  where
+    by : (own : Bool) → const_tree (trees_of m).types cs (if own then C.Filled fill t else C.Int t 0) ≡ (if own then FilledConst fill (type_at (trees_of m).types t) else IntConst (width_in (type_at (trees_of m).types t)) 0)
+    by true = refl
+    by false = refl
+
+-- a word of such a constant says it, and another is an integer's digits or nothing
+pub const_of-word : (m : Module) (fill : Fill) (ty : LLVMType) (t : Text) → IsModule m → ty.0 < length m.types → fill_of t ≡ Some fill
+    → const_of (type_at (trees_of m).types ty) t ≡ Some (const_tree (trees_of m).types (trees_of m).consts (one_form m.types (C.Filled fill ty)))
+const_of-word m fill ty t s within is =
+    ap (λ (o : Option Fill). option_map_or (λ (f : Fill). Some (filled_const f (type_at (trees_of m).types ty))) o (int_const (type_at (trees_of m).types ty) t)) is
+    ∙ ap Some (sym (filled_tree m (trees_of m).consts fill ty s within))
+
+pub const_of-digits : (τ : TypeTree) (t : Text) → fill_of t ≡ None → const_of τ t ≡ int_const τ t
+const_of-digits τ t is = ap (λ (o : Option Fill). option_map_or (λ (f : Fill). Some (filled_const f τ)) o (int_const τ t)) is
+
+-- a pointer is no integer
+pointer_own : (s : Shape) → is_pointer s ≡ true → is_own_fill F.Zero s ≡ true
+pointer_own (S.Pointer space) h = refl
+pointer_own S.Void h = absurd cc
+pointer_own (S.Int w) h = absurd cc
+pointer_own S.Other h = absurd cc
+pointer_own (S.Refused of) h = absurd cc
+pointer_own S.Made h = absurd cc
+pointer_own S.Named h = absurd cc
+pointer_own S.Function h = absurd cc
+
+-- null at a type of the module
+pointer_told : (m : Module) (ty : LLVMType) (k : LLVMTypeKind) (b : Bool) → IsModule m → slice_get m.types ty.0 ≡ Some k → is_pointer (shape_of k) ≡ b → is_pointer (shape (type_at (trees_of m).types ty)) ≡ b
+pointer_told m ty k b s at is = ap (λ (τ : TypeTree). is_pointer (shape τ)) (type_tree_of m ty k s at) ∙ ap is_pointer (sym (shape_kept (trees_of m).types k)) ∙ is
+
+pub null_of-pointer : (m : Module) (ty : LLVMType) (k : LLVMTypeKind) → IsModule m → slice_get m.types ty.0 ≡ Some k → is_pointer (shape_of k) ≡ true
+    → null_of (type_at (trees_of m).types ty) ≡ Some (const_tree (trees_of m).types (trees_of m).consts (one_form m.types (C.Filled F.Zero ty)))
+null_of-pointer m ty k s at is =
+    let pointer = pointer_told m ty k true s at is in
+    let one : filled_const F.Zero (type_at (trees_of m).types ty) ≡ FilledConst F.Zero (type_at (trees_of m).types ty) = rw (pointer_own (shape (type_at (trees_of m).types ty)) pointer) refl in
+    let null : null_of (type_at (trees_of m).types ty) ≡ Some (FilledConst F.Zero (type_at (trees_of m).types ty)) = rw pointer refl in
+    null ∙ ap Some (sym (filled_tree m (trees_of m).consts F.Zero ty s (slice_get_within m.types ty.0 k at) ∙ one))
+
+pub null_of-other : (m : Module) (ty : LLVMType) (k : LLVMTypeKind) → IsModule m → slice_get m.types ty.0 ≡ Some k → is_pointer (shape_of k) ≡ false → null_of (type_at (trees_of m).types ty) ≡ None
+null_of-other m ty k s at is = rw (pointer_told m ty k false s at is) refl
+
+-- ---- what is said
+
+-- no constant stands for another's part
+any_consts : (ts : List TypeTree) (cs ds : List ConstTree) (k : LLVMConstKind) → const_tree ts cs k ≡ const_tree ts ds k
+any_consts ts cs ds (C.Int t v) = refl
+any_consts ts cs ds (C.Filled fill t) = refl
+any_consts ts cs ds (C.Placeholder number t) = refl
+
+-- a constant that a module was given is the one that it was given, over the types from before
+pub given_const : (m n : Module) (c : LLVMConst) (k : LLVMConstKind) → n.types ≡ m.types → slice_get n.consts c.0 ≡ Some k → const_tree (trees_of m).types (trees_of m).consts k ≡ const_at (trees_of n).consts c
+given_const m n c k same here =
+    any_consts (trees_of m).types (trees_of m).consts (trees_of n).consts k
+    ∙ ap (λ (ts : List LLVMTypeKind). const_tree (type_trees ts) (trees_of n).consts k) (sym same)
+    ∙ sym (const_tree_of n c k here)
+
+-- what is read as a constant is said as one
+pub said_by : (m n : Module) (bytes : Text) (o : Option ConstTree) (kind : Option LLVMConstKind) (r : Result Said ValueErr) → (let tree = const_tree (trees_of m).types (trees_of m).consts in IfSome kind (λ k. o ≡ Some (tree (one_form m.types k))) → (kind ≡ None → o ≡ None)
+    → IfOk r (λ x. (bytes : Text) → option_map (λ k. Const (tree (one_form m.types k))) kind ≡ Some (said_view bytes (trees_of n) x)) → IfOk r (λ x. option_map Const o ≡ Some (said_view bytes (trees_of n) x)))
+said_by m n bytes o kind (Err e) is none says = tt
+said_by m n bytes o None (Ok x) is none says = absurd (let never = says bytes in cc (never))
+said_by m n bytes o (Some k) (Ok x) is none says = ap (option_map Const) is ∙ says bytes

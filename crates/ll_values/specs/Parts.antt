@@ -22,6 +22,7 @@ detail_count D.Named = 2
 detail_count D.Bare = 1
 detail_count D.Local = 1
 detail_count D.Literal = 1
+detail_count D.Null = 0
 detail_count D.Inst = 2
 detail_count D.Entry = 2
 detail_count D.Nuw = 1

@@ -1,6 +1,6 @@
 -- What the alternatives of the form say: the values of a text, and how each is made of the values in it.
 use Rattle.std.specs.Prelude.{ℕ, ◌-◌, ◌^◌, Bool, true, false, ◌&&◌, nat_le, if◌then◌else◌, List, [], ◌∷◌, Option, Some, None}
-use Rattle.std.specs.Option.{option_map}
+use Rattle.std.specs.Option.{option_map, option_map_or}
 use Rattle.kinds.specs.declared.op.OverflowFlags.{OverflowFlags}
 use Rattle.kinds.specs.declared.op.Op.{Op}
 use Rattle.kinds.specs.declared.op.Op.TheVariants as O
@@ -10,8 +10,10 @@ use Rattle.kinds.specs.declared.types.StructLayout.{StructLayout}
 use Rattle.kinds.specs.declared.types.StructLayout.TheVariants.{Packed, Unpacked}
 use Rattle.kinds.specs.Types.{TypeTree, VoidType, IntType, PointerType, ArrayType, VectorType, StructType, NamedType, TypeTrees, NoTypes, ThenType, shape}
 use Rattle.kinds.specs.Structs.{StructBody}
-use Rattle.kinds.specs.Fitting.{is_array_of, is_vector_of, is_field}
-use Rattle.llvm_core.specs.Data.{IntConst}
+use Rattle.kinds.specs.declared.fill.Fill.{Fill}
+use Rattle.kinds.specs.declared.fill.Fill.TheVariants as F
+use Rattle.kinds.specs.Fitting.{is_pointer, is_array_of, is_vector_of, is_field}
+use Rattle.llvm_core.specs.Data.{ConstTree, IntConst, FilledConst, filled_const}
 use Rattle.ll_literals.specs.Chain.{◌>>=◌}
 use Rattle.ll_literals.specs.Names.{symbol_name}
 use Rattle.ll_literals.specs.Numbers.{number_of, up_to, width_of}
@@ -27,14 +29,16 @@ use Rattle.ll_values.specs.declared.form.RowKind.{RowKind}
 use Rattle.ll_values.specs.declared.form.RowKind.TheVariants as R
 use Rattle.ll_values.specs.declared.form.TypedKind.{TypedKind}
 use Rattle.ll_values.specs.declared.form.TypedKind.TheVariants as T
-use Rattle.ll_values.specs.Words.{binary_op, cast_op, three_op, predicate_of, flat_type, no_wraps}
+use Rattle.ll_values.specs.Words.{binary_op, cast_op, three_op, predicate_of, flat_type, fill_of, no_wraps}
 
 -- a literal as it is written: its type is known from what it stands in
 pub data Literal : Type 0 where
   -- % and a name or a number
   LocalL : Text → Literal
-  -- an integer's digits, true or false
+  -- an integer's digits, true or false, zeroinitializer, undef or poison
   ConstL : Text → Literal
+  -- null
+  NullL : Literal
 
 -- an entry of a phi
 pub record Entry : Type 0 where
@@ -111,11 +115,24 @@ named_type t = option_map NamedType (symbol_name t)
 abbrev pub body_of : StructLayout → TypeTrees → Option StructBody
 body_of layout τs = if are_fields τs then Some (record { fields = τs; layout = layout }) else None
 
--- what a literal says at a type: a local is a name still, and constants are integers of at most 64 bits
+-- an integer's digits, true or false at an integer type of at most 64 bits
+abbrev pub int_const : TypeTree → Text → Option ConstTree
+int_const (IntType w) t = if nat_le w 64 then option_map (IntConst w) (const_value w t) else None
+int_const _ t = None
+
+-- zero, undef or poison of any type, or an integer
+abbrev pub const_of : TypeTree → Text → Option ConstTree
+const_of τ t = option_map_or (λ (fill : Fill). Some (filled_const fill τ)) (fill_of t) (int_const τ t)
+
+-- null, which is the zero of a pointer alone
+abbrev pub null_of : TypeTree → Option ConstTree
+null_of τ = if is_pointer (shape τ) then Some (FilledConst F.Zero τ) else None
+
+-- what a literal says at a type: a local is a name still
 abbrev pub said : TypeTree → Literal → Option Said
 said τ (LocalL t) = Some (Local t)
-said (IntType w) (ConstL t) = if nat_le w 64 then option_map (λ n. Const (IntConst w n)) (const_value w t) else None
-said _ (ConstL t) = None
+said τ (ConstL t) = option_map Const (const_of τ t)
+said τ NullL = option_map Const (null_of τ)
 
 abbrev pub typed : TypeTree → Literal → Option Typed
 typed τ ℓ = said τ ℓ >>= λ s. Some (record { type = τ; said = s })
@@ -156,6 +173,7 @@ defined f (Some u) ss fs = None
 abbrev pub detail_by : DetailKind → List Value → Option Value
 detail_by D.Local (TextV t ∷ []) = Some (LiteralV (LocalL t))
 detail_by D.Literal (TextV t ∷ []) = Some (LiteralV (ConstL t))
+detail_by D.Null [] = Some (LiteralV NullL)
 detail_by D.Nuw (FlagV nsw ∷ []) = Some (WrapsV (record { nuw = true; nsw = nsw }))
 detail_by D.Nsw [] = Some (WrapsV (record { nuw = false; nsw = true }))
 detail_by D.NoWraps [] = Some (WrapsV no_wraps)

@@ -23,7 +23,7 @@ use Rattle.ll_values.specs.declared.value.Structure.{Structure}
 use Rattle.ll_values.specs.declared.value.Value as code_value
 use Rattle.ll_values.specs.declared.value.Value.TheVariants as V
 use Rattle.ll_values.specs.Lists.{list_at}
-use Rattle.ll_values.specs.Values.{Literal, LocalL, ConstL, Entry, Head, Value, NoneV, TextV, FlagV, WrapsV, TypeV, TypesV, LiteralV, TypedV, SpaceV, PairV, EntryV, EntriesV, InstV, PartV, BodyV, ParamV, ParamsV, HeadV, SourceV, FunctionV, FieldsV, StructV, FileV, are_fields}
+use Rattle.ll_values.specs.Values.{Literal, LocalL, ConstL, NullL, Entry, Head, Value, NoneV, TextV, FlagV, WrapsV, TypeV, TypesV, LiteralV, TypedV, SpaceV, PairV, EntryV, EntriesV, InstV, PartV, BodyV, ParamV, ParamsV, HeadV, SourceV, FunctionV, FieldsV, StructV, FileV, are_fields}
 
 -- ---- what is said
 
@@ -31,6 +31,7 @@ module _ (bytes : List ℕ) where
   abbrev pub literal_view : code_literal.Literal → Literal
   literal_view (L.Local n) = LocalL (text_of bytes n)
   literal_view (L.Const n) = ConstL (text_of bytes n)
+  literal_view L.Null = NullL
 
   abbrev pub entry_view : code_entry.Entry → Entry
   entry_view e = record { literal = literal_view e.literal; block = text_of bytes e.block }

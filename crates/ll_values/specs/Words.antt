@@ -1,8 +1,10 @@
--- Words of instructions, each with its row of the table, and words of types.
+-- Words of instructions, each with its row of the table, words of types, and words of constants of any type.
 use Rattle.std.specs.Prelude.{false, List, [], ◌∷◌, Option, codes}
 use Rattle.std.specs.Option.{option_map}
 use Rattle.std.specs.Map.{lookup}
 use Rattle.std.specs.Str.{bytes_eq}
+use Rattle.kinds.specs.declared.fill.Fill.{Fill}
+use Rattle.kinds.specs.declared.fill.Fill.TheVariants as Z
 use Rattle.kinds.specs.declared.op.LLVMIntPredicate.{LLVMIntPredicate}
 use Rattle.kinds.specs.declared.op.LLVMIntPredicate.TheVariants as P
 use Rattle.kinds.specs.declared.op.OverflowFlags.{OverflowFlags}
@@ -57,6 +59,13 @@ flat_rows =
     (codes "half", FloatingType F.Half) ∷ (codes "bfloat", FloatingType F.BFloat) ∷ (codes "float", FloatingType F.Float) ∷ (codes "double", FloatingType F.Double)
     ∷ (codes "x86_fp80", RefusedType X.X86Fp80) ∷ (codes "fp128", RefusedType X.Fp128) ∷ (codes "ppc_fp128", RefusedType X.PpcFp128)
     ∷ (codes "x86_amx", RefusedType X.X86Amx) ∷ (codes "token", RefusedType X.Token) ∷ []
+
+-- zero, undef and poison
+abbrev pub fill_rows : List (Text × Fill)
+fill_rows = (codes "zeroinitializer", Z.Zero) ∷ (codes "undef", Z.Undef) ∷ (codes "poison", Z.Poison) ∷ []
+
+abbrev pub fill_of : Text → Option Fill
+fill_of word = lookup (bytes_eq word) fill_rows
 
 abbrev pub flat_tree : FlatWord → TypeTree
 flat_tree (W.Floating of) = FloatingType of

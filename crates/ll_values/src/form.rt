@@ -16,6 +16,7 @@ pub enum DetailKind {
     Bare,
     Local,
     Literal,
+    Null,
     Inst,
     Entry,
     Nuw,
@@ -112,6 +113,7 @@ impl DetailKind {
             DetailKind::Bare => 1,
             DetailKind::Local => 1,
             DetailKind::Literal => 1,
+            DetailKind::Null => 0,
             DetailKind::Inst => 2,
             DetailKind::Entry => 2,
             DetailKind::Nuw => 1,
@@ -656,7 +658,8 @@ pub static KINDS: [Kind; 541] = [
     Kind::Detail(DetailKind::Literal),
     // 366: value = CONST
     Kind::Detail(DetailKind::Literal),
-    Kind::Outside,
+    // 367: value = 'null'
+    Kind::Detail(DetailKind::Null),
     Kind::Outside,
     Kind::Outside,
     Kind::Outside,

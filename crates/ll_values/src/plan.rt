@@ -26,6 +26,7 @@ pub fn put_detail(alloc: Global, m: &LLVMModule, store: &Store, bytes: &[u8], ki
     match kind {
         DetailKind::Local => match *stack.first(1) { [Value::Text(n)] => put(alloc, m, store, bytes, Kind::Detail(DetailKind::Local), stack, Value::Literal(Literal::Local(n))), _ => Err(ValueErr::NotYet) },
         DetailKind::Literal => match *stack.first(1) { [Value::Text(n)] => put(alloc, m, store, bytes, Kind::Detail(DetailKind::Literal), stack, Value::Literal(Literal::Const(n))), _ => Err(ValueErr::NotYet) },
+        DetailKind::Null => put(alloc, m, store, bytes, Kind::Detail(DetailKind::Null), stack, Value::Literal(Literal::Null)),
         DetailKind::Nuw => match *stack.first(1) { [Value::Flag(nsw)] => put(alloc, m, store, bytes, Kind::Detail(DetailKind::Nuw), stack, Value::Wraps(OverflowFlags { nuw: true, nsw })), _ => Err(ValueErr::NotYet) },
         DetailKind::Nsw => put(alloc, m, store, bytes, Kind::Detail(DetailKind::Nsw), stack, Value::Wraps(OverflowFlags { nuw: false, nsw: true })),
         DetailKind::NoWraps => put(alloc, m, store, bytes, Kind::Detail(DetailKind::NoWraps), stack, Value::Wraps(OverflowFlags { nuw: false, nsw: false })),

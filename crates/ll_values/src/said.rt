@@ -2,22 +2,25 @@
 
 ghost use Rattle.std.specs.Prelude.{◌≡◌, ◌≤◌, Some, None, Err, IfOk, IfSome, OnOk, length, slice_get};
 ghost use Rattle.llvm_core.specs.declared.types.LLVMTypeKind.TheVariants as T;
-ghost use Rattle.llvm_core.specs.Parts.{IsTypeOver, HasFitParts};
+ghost use Rattle.std.specs.Option.{option_map};
+ghost use Rattle.llvm_core.specs.Parts.{IsTypeOver, HasFitParts, HasConstParts, one_form};
 ghost use Rattle.llvm_core.specs.Sound.{IsModule};
-ghost use Rattle.llvm_core.specs.Data.{trees_of, type_at, type_tree};
-ghost use Rattle.ll_lines.specs.Lines.{Text};
+ghost use Rattle.llvm_core.specs.Data.{trees_of, type_at, type_tree, const_tree};
+ghost use Rattle.ll_lines.specs.Lines.{Text, Const};
 ghost use Rattle.ll_lines.specs.Views.{said_view, text_of, IsTypeIn, IsSaidIn};
-ghost use Rattle.ll_values.specs.Values.{said, ConstL};
+ghost use Rattle.ll_values.specs.Values.{said, const_of, int_const, null_of};
 ghost use Rattle.ll_values.specs.Views.{literal_view};
 ghost use Rattle.ll_values.specs.Growing.{Interns};
 
 use crate::value::Literal;
 use crate::value_err::ValueErr;
+use crate::words::fill_of;
+use kinds::fill::Fill;
+use kinds::fitting::is_pointer;
 use ll_lines::lines::Said;
-use ll_lines::names::Name;
 use ll_literals::literals::const_value;
 use llvm_core::consts::LLVMConstKind;
-use llvm_core::module::LLVMModule;
+use llvm_core::module::{LLVMModule, shape_of};
 use llvm_core::numbers::LLVMType;
 use llvm_core::types::LLVMTypeKind;
 
@@ -73,7 +76,7 @@ fn const_width(m: &LLVMModule, ty: LLVMType) -> Option<u32>
     requires there { IsTypeIn m.now ty }
     ensures int { IfSome result (λ w. slice_get m.now.types ty.0 ≡ Some (T.Int w)) }
     ensures most { IfSome result (λ w. w ≤ 64) }
-    ensures none { result ≡ None → (t : Text) → said (type_at (trees_of m.now).types ty) (ConstL t) ≡ None }
+    ensures none { result ≡ None → (t : Text) → int_const (type_at (trees_of m.now).types ty) t ≡ None }
 {
     match m.type_kind(ty) {
         LLVMTypeKind::Int(width) => (*width <= 64).then_some(*width),
@@ -81,23 +84,62 @@ fn const_width(m: &LLVMModule, ty: LLVMType) -> Option<u32>
     }
 }
 
-/// What a constant says at a type.
+/// An integer of a type, as a constant of one form.
+fn int_const(m: &LLVMModule, text: &[u8], ty: LLVMType) -> Option<LLVMConstKind>
+    requires sound { IsModule m.now }
+    requires there { IsTypeIn m.now ty }
+    ensures parts { IfSome result (HasConstParts m.now.types) }
+    ensures said { IfSome result (λ k. int_const (type_at (trees_of m.now).types ty) text.now ≡ Some (const_tree (trees_of m.now).types (trees_of m.now).consts (one_form m.now.types k))) }
+    ensures none { result ≡ None → int_const (type_at (trees_of m.now).types ty) text.now ≡ None }
+{
+    let width = const_width(m, ty)?;
+    let value = const_value(text, width)?;
+    Some(LLVMConstKind::Int(ty, value))
+}
+
+/// The constant that a word or an integer's digits say at a type.
+fn const_of(m: &LLVMModule, text: &[u8], ty: LLVMType) -> Option<LLVMConstKind>
+    requires sound { IsModule m.now }
+    requires there { IsTypeIn m.now ty }
+    ensures parts { IfSome result (HasConstParts m.now.types) }
+    ensures said { IfSome result (λ k. const_of (type_at (trees_of m.now).types ty) text.now ≡ Some (const_tree (trees_of m.now).types (trees_of m.now).consts (one_form m.now.types k))) }
+    ensures none { result ≡ None → const_of (type_at (trees_of m.now).types ty) text.now ≡ None }
+{
+    match fill_of(text) {
+        Some(fill) => Some(LLVMConstKind::Filled(fill, ty)),
+        None => int_const(m, text, ty),
+    }
+}
+
+/// The constant that `null` says at a type, which is one of a pointer.
+fn null_of(m: &LLVMModule, ty: LLVMType) -> Option<LLVMConstKind>
+    requires sound { IsModule m.now }
+    requires there { IsTypeIn m.now ty }
+    ensures parts { IfSome result (HasConstParts m.now.types) }
+    ensures said { IfSome result (λ k. null_of (type_at (trees_of m.now).types ty) ≡ Some (const_tree (trees_of m.now).types (trees_of m.now).consts (one_form m.now.types k))) }
+    ensures none { result ≡ None → null_of (type_at (trees_of m.now).types ty) ≡ None }
+{
+    if is_pointer(shape_of(m.type_kind(ty))) {
+        Some(LLVMConstKind::Filled(Fill::Zero, ty))
+    } else {
+        None
+    }
+}
+
+/// What a constant says.
 #[inline(never)]
-fn said_const(m: &mut LLVMModule, bytes: &[u8], ty: LLVMType, name: Name) -> Result<Said, ValueErr>
+fn said_const(m: &mut LLVMModule, kind: Option<LLVMConstKind>) -> Result<Said, ValueErr>
     requires sound { IsModule m.old }
-    requires there { IsTypeIn m.old ty }
+    requires parts { IfSome kind (HasConstParts m.old.types) }
     ensures interns { OnOk result (Interns m.old m.new) }
     ensures there { IfOk result (IsSaidIn m.new) }
-    ensures said { IfOk result (λ x. said (type_at (trees_of m.old).types ty) (ConstL (text_of bytes.now name)) ≡ Some (said_view bytes.now (trees_of m.new) x)) }
-    ensures not_yet { result ≡ Err ValueErr.NotYet → said (type_at (trees_of m.old).types ty) (ConstL (text_of bytes.now name)) ≡ None }
+    ensures said { IfOk result (λ x. (bytes : Text) → option_map (λ k. Const (const_tree (trees_of m.old).types (trees_of m.old).consts (one_form m.old.types k))) kind ≡ Some (said_view bytes (trees_of m.new) x)) }
+    ensures not_yet { result ≡ Err ValueErr.NotYet → kind ≡ None }
 {
-    let Some(width) = const_width(m, ty) else {
+    let Some(kind) = kind else {
         return Err(ValueErr::NotYet);
     };
-    let Some(value) = const_value(name.text(bytes), width) else {
-        return Err(ValueErr::NotYet);
-    };
-    let c = m.const_get(LLVMConstKind::Int(ty, value))?;
+    let c = m.const_get(kind)?;
     Ok(Said::Const(c))
 }
 
@@ -118,6 +160,13 @@ pub fn said(
 {
     match literal {
         Literal::Local(name) => Ok(Said::Local(name)),
-        Literal::Const(name) => said_const(m, bytes, ty, name),
+        Literal::Const(name) => {
+            let kind = const_of(m, name.text(bytes), ty);
+            said_const(m, kind)
+        }
+        Literal::Null => {
+            let kind = null_of(m, ty);
+            said_const(m, kind)
+        }
     }
 }

@@ -11,8 +11,10 @@ use llvm_core::numbers::LLVMType;
 pub enum Literal {
     /// `%` and a name or a number.
     Local(Name),
-    /// An integer's digits, `true` or `false`.
+    /// An integer's digits, `true` or `false`, `zeroinitializer`, `undef` or `poison`.
     Const(Name),
+    /// `null`.
+    Null,
 }
 
 /// An entry of a phi.

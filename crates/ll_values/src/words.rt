@@ -4,9 +4,10 @@ ghost use Rattle.std.specs.Prelude.{◌≡◌, ◌≤◌, ◌-◌, ◌^◌, IfSo
 ghost use Rattle.std.specs.Option.{option_map};
 ghost use Rattle.kinds.specs.Types.{IntType};
 ghost use Rattle.ll_literals.specs.Numbers.{number_of, up_to};
-ghost use Rattle.ll_values.specs.Words.{binary_op, cast_op, three_op, predicate_of, flat_tree, flat_type};
+ghost use Rattle.ll_values.specs.Words.{binary_op, cast_op, three_op, predicate_of, fill_of, flat_tree, flat_type};
 ghost use Rattle.ll_values.specs.Values.{int_type};
 
+use kinds::fill::Fill;
 use kinds::op::{LLVMIntPredicate, Op, OverflowFlags};
 use kinds::types::{Floating, OtherType};
 use ll_literals::numbers::number;
@@ -69,6 +70,22 @@ pub fn predicate(word: &[u8]) -> Option<LLVMIntPredicate>
         b"sle" => Some(LLVMIntPredicate::LLVMIntSLE),
         _ => None,
     }
+}
+
+/// Zero, undef or poison, by its word.
+pub fn fill_of(word: &[u8]) -> Option<Fill>
+    ensures { result ≡ fill_of word.now }
+{
+    if word == b"zeroinitializer".as_slice() {
+        return Some(Fill::Zero);
+    }
+    if word == b"undef".as_slice() {
+        return Some(Fill::Undef);
+    }
+    if word == b"poison".as_slice() {
+        return Some(Fill::Poison);
+    }
+    None
 }
 
 /// A type that is a word alone.

@@ -1,14 +1,16 @@
 -- Printed numbers are numbers of the text, and printed integers literals of their value.
-use Rattle.std.proofs.Common.{◌≡◌, ℕ, zero, suc, Bool, true, false, cond, nat_eq, nat_lt, nat_le, ◌==◌, ◌^◌, ◌+◌, ◌-◌, ◌*◌, ◌≤◌, ◌<◌, [], ◌∷◌, Some, pow-suc, refl, sym, subst, ◌∙◌, arith}
+use Rattle.std.proofs.Common.{◌≡◌, ℕ, zero, suc, Bool, true, false, cond, nat_eq, nat_lt, nat_le, ◌==◌, ◌^◌, ◌+◌, ◌-◌, ◌*◌, ◌≤◌, ◌<◌, [], ◌∷◌, Some, None, codes, pow-suc, refl, sym, ap, subst, ◌∙◌, arith}
 use Rattle.std.specs.Prelude.{decimal}
 use Rattle.std.specs.Str.{bytes_eq}
 use Rattle.std.proofs.lemmas.Bool.Decides.{nat_tests}
 use Rattle.std.proofs.lemmas.Nat.{pow_pos}
+use Rattle.std.proofs.lemmas.Slice.Eq.{bytes_eq-Decides}
 use Rattle.std.proofs.Math.Nat.{pow-le-pow_right}
 use Rattle.llvm_core.specs.Names.{is_digit}
 use Rattle.ll_literals.specs.Text.{Text}
 use Rattle.ll_literals.specs.Numbers.{number_of, width_of}
 use Rattle.ll_literals.specs.Literals.{if_number, at_width, const_value}
+use Rattle.ll_values.specs.Words.{fill_of}
 use Rattle.ll_written.specs.Printing.{signed_text, int_text}
 use Rattle.ll_said.proofs.DecimalLaws.{IsDecimal, IsDecimal-decimal}
 
@@ -84,3 +86,15 @@ int_by w v false some most fits e =
 
 pub const_value-int : (w v : ℕ) → 1 ≤ w → w ≤ 64 → v < 2 ^ w → const_value w (int_text w v) ≡ Some v
 const_value-int w v some most fits = int_by w v (w == 1) some most fits refl
+
+-- ---- and no word of a constant of any type
+
+word_differs : (w v : ℕ) (t word : Text) → const_value w t ≡ Some v → const_value w word ≡ None → bytes_eq t word ≡ false
+word_differs w v t word is none = by (bytes_eq t word) refl
+  where
+    by : (b : Bool) → bytes_eq t word ≡ b → b ≡ false
+    by true e = absurd (let both : Some v ≡ None = sym is ∙ ap (const_value w) ((bytes_eq-Decides t word).0 e) ∙ none in cc (both))
+    by false e = refl
+
+pub no_fill : (w v : ℕ) (t : Text) → const_value w t ≡ Some v → fill_of t ≡ None
+no_fill w v t is = rw (word_differs w v t (codes "zeroinitializer") is refl, word_differs w v t (codes "undef") is refl, word_differs w v t (codes "poison") is refl) refl

@@ -18,9 +18,9 @@ use Rattle.ll_said.specs.Sayable.{IsSayable, IsSayableModule}
 use Rattle.ll_spacing.specs.Forms.{IsText}
 use Rattle.ll_tokens.specs.declared.kinds.Kind.TheVariants as K
 use Rattle.ll_literals.specs.Names.{printed_text}
-use Rattle.ll_written.specs.Writable.{has_good_names, IsSayableType, IsPart, IsParam, IsFunction, IsWritable}
+use Rattle.ll_written.specs.Writable.{IsSayableType, IsPart, IsParam, IsFunction, IsWritable}
 use Rattle.ll_written.proofs.NameForms.{string_form, global_form, local_form, label_form}
-use Rattle.ll_written.proofs.NamedForms.{AreGoodIn, all_front, all_back, result_good, param_good, good_functions, structs_form}
+use Rattle.ll_written.proofs.NamedForms.{IsGoodIn, AreGoodIn, all_front, all_back, result_good, param_good, good_functions, structs_form}
 use Rattle.ll_written.proofs.LineForms.{line_form}
 
 -- ---- parameters
@@ -33,9 +33,6 @@ nth_first_class (ThenType t ts) (suc i) all within = nth_first_class ts i all.1 
 all_then : {A : Type 0} (Q : A → Type 0) (xs ys : List A) → AllByRecursion Q xs → AllByRecursion Q ys → AllByRecursion Q (xs ++ ys)
 all_then Q [] ys h k = k
 all_then Q (x ∷ xs) ys h k = (h.0, all_then Q xs ys h.1 k)
-
-abbrev IsGood : Placed → Type 0
-IsGood p = has_good_names p.type ≡ true
 
 module _ (f : Function) (sayable : IsSayable f) (good : AreGoodIn f) where
   type_form : (i : ℕ) → i < length f.params → IsSayableType (param_type f.type i)
@@ -50,32 +47,32 @@ module _ (f : Function) (sayable : IsSayable f) (good : AreGoodIn f) where
 
   -- ---- bodies
 
-  lines_form : (n : ℕ) (ps : List Placed) → AllByRecursion (IsFormPlaced f n) ps → AllByRecursion IsGood ps → AllByRecursion IsPart (map (λ (p : Placed). L.Does (line_of f p)) ps)
+  lines_form : (n : ℕ) (ps : List Placed) → AllByRecursion (IsFormPlaced f n) ps → AllByRecursion IsGoodIn ps → AllByRecursion IsPart (map (λ (p : Placed). L.Does (line_of f p)) ps)
   lines_form n [] all named = tt
   lines_form n (p ∷ ps) all named = (line_form f sayable good n p all.0 named.0, lines_form n ps all.1 named.1)
 
-  block_lines : (b : Block) → IsFormBlock f b → AllByRecursion IsGood b.instructions → AllByRecursion IsPart (lines_of f b)
+  block_lines : (b : Block) → IsFormBlock f b → AllByRecursion IsGoodIn b.instructions → AllByRecursion IsPart (lines_of f b)
   block_lines b h named = lines_form b.number b.instructions (recursion_from_All (IsFormPlaced f b.number) b.instructions h.instructions) named
 
   -- the instructions of blocks
   abbrev inner : List Block → List Placed
   inner bs = flat_map (λ (b : Block). b.instructions) bs
 
-  blocks_form : (bs : List Block) → AllByRecursion (IsFormBlock f) bs → AllByRecursion IsGood (inner bs) → AllByRecursion IsPart (flat_map (block_parts f) bs)
+  blocks_form : (bs : List Block) → AllByRecursion (IsFormBlock f) bs → AllByRecursion IsGoodIn (inner bs) → AllByRecursion IsPart (flat_map (block_parts f) bs)
   blocks_form [] all named = tt
   blocks_form (b ∷ bs) all named =
-      let lines = block_lines b all.0 (all_front IsGood b.instructions (inner bs) named) in
-      (label_form f sayable b, all_then IsPart (lines_of f b) (flat_map (block_parts f) bs) lines (blocks_form bs all.1 (all_back IsGood b.instructions (inner bs) named)))
+      let lines = block_lines b all.0 (all_front IsGoodIn b.instructions (inner bs) named) in
+      (label_form f sayable b, all_then IsPart (lines_of f b) (flat_map (block_parts f) bs) lines (blocks_form bs all.1 (all_back IsGoodIn b.instructions (inner bs) named)))
 
   entry_form : (b : Block) (name : Text) → AllByRecursion IsPart (entry_label f b name)
   entry_form b [] = tt
   entry_form b (c ∷ cs) = (label_form f sayable b, tt)
 
-  body_form : (bs : List Block) → AllByRecursion (IsFormBlock f) bs → AllByRecursion IsGood (inner bs) → AllByRecursion IsPart (parts_of f bs)
+  body_form : (bs : List Block) → AllByRecursion (IsFormBlock f) bs → AllByRecursion IsGoodIn (inner bs) → AllByRecursion IsPart (parts_of f bs)
   body_form [] all named = tt
   body_form (b ∷ bs) all named =
-      let lines = block_lines b all.0 (all_front IsGood b.instructions (inner bs) named) in
-      let blocks = blocks_form bs all.1 (all_back IsGood b.instructions (inner bs) named) in
+      let lines = block_lines b all.0 (all_front IsGoodIn b.instructions (inner bs) named) in
+      let blocks = blocks_form bs all.1 (all_back IsGoodIn b.instructions (inner bs) named) in
       all_then IsPart (entry_label f b b.name) (lines_of f b ++ flat_map (block_parts f) bs) (entry_form b b.name) (all_then IsPart (lines_of f b) (flat_map (block_parts f) bs) lines blocks)
 
   some_by : (b : Block) (name : Text) (ps : List Placed) (rest : List Part) → ends_in_only is_last ps ≡ true → ¬ (entry_label f b name ++ (map (λ (p : Placed). L.Does (line_of f p)) ps ++ rest) ≡ [])
@@ -95,7 +92,7 @@ module _ (f : Function) (sayable : IsSayable f) (good : AreGoodIn f) where
         result = record { type = subst (λ (τ : TypeTree). IsReturned (result_of τ)) (sym form.type) form.returns; names = result_good f.type good.signature };
         name = global_form f.name form.name;
         params = params_form 0 f.params (omega arith) (recursion_from_All IsGoodOrNone f.params form.param_names);
-        body = body_form f.blocks blocks good.results;
+        body = body_form f.blocks blocks good.placed;
         some = some_form f.blocks blocks form.body;
       }
 

@@ -16,8 +16,8 @@ use Rattle.kinds.specs.Names.{is_good_name}
 use Rattle.kinds.proofs.TypeLaws.{and_left, and_right}
 use Rattle.kinds.proofs.HeldLaws.{first_class_by}
 use Rattle.kinds.proofs.NestLaws.{nested_shallow}
-use Rattle.llvm_core.specs.Data.{IntConst, PlaceholderConst, Operand, Constant, Parameter, Result, Placed, Function, ModuleData, nth_type, param_type, operand_type, placed_in}
-use Rattle.llvm_core.specs.Form.{IsOperandOf, types_in}
+use Rattle.llvm_core.specs.Data.{Operand, Constant, Parameter, Result, Placed, Function, ModuleData, nth_type, param_type, operand_type, placed_in}
+use Rattle.llvm_core.specs.Form.{constant_type, constant_types, types_in}
 use Rattle.ll_lines.specs.Lines.{Text}
 use Rattle.ll_said.specs.Said.{struct_of}
 use Rattle.ll_said.specs.Sayable.{IsSayableModule}
@@ -117,10 +117,18 @@ module _ (structs : List Struct) (all : AllByRecursion IsFormStruct structs) whe
 
 -- ---- functions
 
+abbrev pub HasGoodNames : TypeTree → Type 0
+HasGoodNames t = has_good_names t ≡ true
+
+-- the names in the types of an instruction's result and of the constants that it uses are good
+pub record IsGoodIn (p : Placed) : Type 0 where
+  pub result : HasGoodNames p.type
+  pub constants : AllByRecursion HasGoodNames (constant_types p)
+
 -- the names in a function's types are good
 pub record AreGoodIn (f : Function) : Type 0 where
-  pub signature : has_good_names f.type ≡ true
-  pub results : AllByRecursion (λ (p : Placed). has_good_names p.type ≡ true) (placed_in f)
+  pub signature : HasGoodNames f.type
+  pub placed : AllByRecursion IsGoodIn (placed_in f)
 
 pub result_good : (t : TypeTree) → has_good_names t ≡ true → has_good_names (result_of t) ≡ true
 result_good (FunctionType r ps v) h = and_left (has_good_names r) (have_good_names ps) h
@@ -138,40 +146,59 @@ nth_good (ThenType t ts) (suc i) h = nth_good ts i (and_right (has_good_names t)
 pub param_good : (t : TypeTree) (i : ℕ) → has_good_names t ≡ true → has_good_names (param_type t i) ≡ true
 param_good t i h = nth_good (takes_of t) i (takes_good t h)
 
-found_good : (q : Placed → Bool) (ps : List Placed) → AllByRecursion (λ (p : Placed). has_good_names p.type ≡ true) ps → has_good_names (option_map_or (λ (p : Placed). p.type) (find q ps) VoidType) ≡ true
+found_good : (q : Placed → Bool) (ps : List Placed) → AllByRecursion IsGoodIn ps → has_good_names (option_map_or (λ (p : Placed). p.type) (find q ps) VoidType) ≡ true
 found_good q [] all = refl
 found_good q (p ∷ ps) all = by (q p) (found_good q ps all.1)
   where
     by : (b : Bool) → has_good_names (option_map_or (λ (p : Placed). p.type) (find q ps) VoidType) ≡ true → has_good_names (option_map_or (λ (p : Placed). p.type) (cond b (Some p) (find q ps)) VoidType) ≡ true
-    by true others = all.0
+    by true others = all.0.result
     by false others = others
 
 if_good : (b : Bool) (t : TypeTree) → has_good_names t ≡ true → has_good_names (cond b t VoidType) ≡ true
 if_good true t h = h
 if_good false t h = refl
 
--- so are those in the types of its operands
-pub operand_good : (f : Function) → AreGoodIn f → (o : Operand) → IsOperandOf f o → has_good_names (operand_type f o) ≡ true
-operand_good f good (Constant (IntConst w n)) stands = refl
-operand_good f good (Constant (PlaceholderConst n type)) stands = absurd stands
-operand_good f good (Parameter g i) stands = if_good (nat_eq g f.number) (param_type f.type i) (param_good f.type i good.signature)
-operand_good f good (Result n) stands = found_good (λ (p : Placed). nat_eq p.number n) (placed_in f) good.results
+-- so are those in the type of an operand, of a constant where they are in its own type
+pub operand_good : (f : Function) → AreGoodIn f → (o : Operand) → AllByRecursion HasGoodNames (constant_type o) → has_good_names (operand_type f o) ≡ true
+operand_good f good (Constant c) own = own.0
+operand_good f good (Parameter g i) own = if_good (nat_eq g f.number) (param_type f.type i) (param_good f.type i good.signature)
+operand_good f good (Result n) own = found_good (λ (p : Placed). nat_eq p.number n) (placed_in f) good.placed
 
 -- ---- modules
 
-functions_good : (structs : List Struct) → AllByRecursion IsFormStruct structs → (fs : List Function) → AllByRecursion (IsNested structs) (map (λ (f : Function). f.type) fs) → AllByRecursion (IsNested structs) (map (λ (p : Placed). p.type) (flat_map placed_in fs))
-    → AllByRecursion AreGoodIn fs
-functions_good structs all [] signatures results = tt
-functions_good structs all (f ∷ fs) signatures results =
-    (record { signature = nested_good structs all f.type signatures.0; results = firsts (placed_in f) (flat_map placed_in fs) results }, functions_good structs all fs signatures.1 (others (placed_in f) (flat_map placed_in fs) results))
-  where
-    firsts : (ps qs : List Placed) → AllByRecursion (IsNested structs) (map (λ (p : Placed). p.type) (ps ++ qs)) → AllByRecursion (λ (p : Placed). has_good_names p.type ≡ true) ps
-    firsts [] qs h = tt
-    firsts (p ∷ ps) qs h = (nested_good structs all p.type h.0, firsts ps qs h.1)
+module _ (structs : List Struct) (all : AllByRecursion IsFormStruct structs) where
+  abbrev AreNested : List TypeTree → Type 0
+  AreNested ts = AllByRecursion (IsNested structs) ts
 
-    others : (ps qs : List Placed) → AllByRecursion (IsNested structs) (map (λ (p : Placed). p.type) (ps ++ qs)) → AllByRecursion (IsNested structs) (map (λ (p : Placed). p.type) qs)
-    others [] qs h = h
-    others (p ∷ ps) qs h = others ps qs h.1
+  abbrev results_of : List Placed → List TypeTree
+  results_of ps = map (λ (p : Placed). p.type) ps
+
+  types_good : (ts : List TypeTree) → AreNested ts → AllByRecursion HasGoodNames ts
+  types_good [] h = tt
+  types_good (t ∷ ts) h = (nested_good structs all t h.0, types_good ts h.1)
+
+  firsts : (ps qs : List Placed) → AreNested (results_of (ps ++ qs)) → AreNested (flat_map constant_types (ps ++ qs)) → AllByRecursion IsGoodIn ps
+  firsts [] qs h k = tt
+  firsts (p ∷ ps) qs h k =
+      let more = flat_map constant_types (ps ++ qs) in
+      let own = types_good (constant_types p) (all_front (IsNested structs) (constant_types p) more k) in
+      (record { result = nested_good structs all p.type h.0; constants = own }, firsts ps qs h.1 (all_back (IsNested structs) (constant_types p) more k))
+
+  others : (ps qs : List Placed) → AreNested (results_of (ps ++ qs)) → AreNested (results_of qs)
+  others [] qs h = h
+  others (p ∷ ps) qs h = others ps qs h.1
+
+  others_used : (ps qs : List Placed) → AreNested (flat_map constant_types (ps ++ qs)) → AreNested (flat_map constant_types qs)
+  others_used [] qs k = k
+  others_used (p ∷ ps) qs k = others_used ps qs (all_back (IsNested structs) (constant_types p) (flat_map constant_types (ps ++ qs)) k)
+
+  functions_good : (fs : List Function) → AreNested (map (λ (f : Function). f.type) fs) → AreNested (results_of (flat_map placed_in fs)) → AreNested (flat_map constant_types (flat_map placed_in fs)) → AllByRecursion AreGoodIn fs
+  functions_good [] signatures results constants = tt
+  functions_good (f ∷ fs) signatures results constants =
+      let rest = flat_map placed_in fs in (
+        record { signature = nested_good structs all f.type signatures.0; placed = firsts (placed_in f) rest results constants },
+        functions_good fs signatures.1 (others (placed_in f) rest results) (others_used (placed_in f) rest constants),
+      )
 
 module _ (d : ModuleData) (h : IsSayableModule d) where
   abbrev signatures : List TypeTree
@@ -179,6 +206,9 @@ module _ (d : ModuleData) (h : IsSayableModule d) where
 
   abbrev results : List TypeTree
   results = map (λ (p : Placed). p.type) (flat_map placed_in d.functions)
+
+  abbrev constants : List TypeTree
+  constants = flat_map constant_types (flat_map placed_in d.functions)
 
   abbrev named : List TypeTree
   named = map (λ (s : Struct). NamedType s.name) d.structs
@@ -189,12 +219,16 @@ module _ (d : ModuleData) (h : IsSayableModule d) where
   nested : AllByRecursion (IsNested d.structs) (types_in d)
   nested = recursion_from_All (IsNested d.structs) (types_in d) h.nested
 
+  middle : AllByRecursion (IsNested d.structs) (named ++ signatures ++ results)
+  middle = all_front (IsNested d.structs) (named ++ signatures ++ results) constants nested
+
   early : AllByRecursion (IsNested d.structs) (named ++ signatures)
-  early = all_front (IsNested d.structs) (named ++ signatures) results nested
+  early = all_front (IsNested d.structs) (named ++ signatures) results middle
 
   -- the names in the types of each function are good
   pub good_functions : AllByRecursion AreGoodIn d.functions
-  good_functions = functions_good d.structs forms d.functions (all_back (IsNested d.structs) named signatures early) (all_back (IsNested d.structs) (named ++ signatures) results nested)
+  good_functions = functions_good d.structs forms d.functions (all_back (IsNested d.structs) named signatures early) (all_back (IsNested d.structs) (named ++ signatures) results middle)
+      (all_back (IsNested d.structs) (named ++ signatures ++ results) constants nested)
 
   -- and its structs may be written
   pub structs_form : AllByRecursion IsStruct (map struct_of d.structs)

@@ -292,6 +292,10 @@ pub value_literal_zeroinitializer : {v : Value} (b0 : Text) → value_by (K.Deta
 value_literal_zeroinitializer b0 made_by =
     made llvm KINDS 84 366 (K.Detail D.Literal) {cs = TextV (codes "zeroinitializer") ∷ []} refl refl refl made_by (leaf llvm KINDS (token b0 Word (codes "zeroinitializer")) C.word_zeroinitializer (nothing llvm KINDS))
 
+-- value = 'null'
+pub value_null : {v : Value} (b0 : Text) → value_by (K.Detail D.Null) [] ≡ Some v → Reads N.value v (token b0 Word (codes "null") ∷ [])
+value_null b0 made_by = made llvm KINDS 84 367 (K.Detail D.Null) {cs = []} refl refl refl made_by (word llvm KINDS (token b0 Word (codes "null")) C.word_null (nothing llvm KINDS))
+
 -- typed = type value
 pub typed : {v v0 v1 : Value} {x0 x1 : List Spaced} → Reads N.type v0 x0 → Reads N.value v1 x1 → value_by (K.Typed T.Typed) (v0 ∷ v1 ∷ []) ≡ Some v → Reads N.typed v (x0 ++ x1)
 typed {v0} {v1} h0 h1 made_by = made llvm KINDS 85 378 (K.Typed T.Typed) {cs = v0 ∷ v1 ∷ []} refl refl refl made_by (rule llvm KINDS h0 (last llvm KINDS h1))

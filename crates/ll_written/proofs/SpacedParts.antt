@@ -1,5 +1,5 @@
 -- The tokens of what a text says are well spaced.
-use Rattle.std.proofs.Common.{◌≡◌, ◌≤◌, ◌<◌, ◌^◌, ℕ, zero, suc, Bool, true, false, cond, ◌==◌, ◌-◌, nat_le, nat_lt, List, [], ◌∷◌, Option, Some, None, codes, refl, subst, arith}
+use Rattle.std.proofs.Common.{◌≡◌, ◌≤◌, ◌<◌, ◌^◌, ℕ, zero, suc, Bool, true, false, cond, if◌then◌else◌, ◌==◌, ◌-◌, nat_le, nat_lt, List, [], ◌∷◌, Option, Some, None, codes, refl, subst, arith}
 use Rattle.std.specs.Prelude.{decimal, IfSome}
 use Rattle.std.specs.List.{flat_map, AllByRecursion}
 use Rattle.std.proofs.lemmas.Bool.Decides.{nat_tests}
@@ -9,7 +9,10 @@ use Rattle.kinds.specs.declared.op.LLVMIntPredicate.TheVariants as I
 use Rattle.kinds.specs.declared.op.OverflowFlags.{OverflowFlags}
 use Rattle.kinds.specs.declared.op.Op.{Op}
 use Rattle.kinds.specs.declared.op.Op.TheVariants as O
-use Rattle.kinds.specs.Types.{TypeTree}
+use Rattle.kinds.specs.declared.fill.Fill.{Fill}
+use Rattle.kinds.specs.declared.fill.Fill.TheVariants as Z
+use Rattle.kinds.specs.Fitting.{is_pointer}
+use Rattle.kinds.specs.Types.{TypeTree, shape}
 use Rattle.ll_lines.specs.Lines as L
 use Rattle.ll_lines.specs.Lines.{Text, Said, Typed}
 use Rattle.ll_spacing.specs.Forms.{IsText, is_word}
@@ -17,10 +20,10 @@ use Rattle.ll_spacing.specs.Spacing.{AreBlanks}
 use Rattle.std.proofs.lemmas.Nat.{pow_pos}
 use Rattle.ll_tokens.specs.declared.kinds.Kind.{Kind}
 use Rattle.ll_tokens.specs.declared.kinds.Kind.TheVariants as T
-use Rattle.ll_written.specs.Printing.{int_text, signed_text, predicate_text}
+use Rattle.ll_written.specs.Printing.{int_text, filled_text, signed_text, predicate_text}
 use Rattle.ll_written.specs.Written as W
 use Rattle.ll_written.specs.Written.{token, word}
-use Rattle.ll_written.specs.Writable.{IsSayableType, an_int, IsLocal, IsSaidOf, IsTyped}
+use Rattle.ll_written.specs.Writable.{IsSayableType, an_int, a_filled, IsLocal, IsSaidOf, IsTyped}
 use Rattle.ll_written.proofs.FreeLaws.{AreFree, IsFree, none_free, then_free, one_free, both_free, each_free, gap_free, apart_free, word_whole, word_free, comma_free}
 use Rattle.ll_written.proofs.NumberForms.{decimal_text, minus_text}
 use Rattle.ll_written.proofs.TypeTokens.{type_free}
@@ -54,9 +57,20 @@ int_by w n false most fits e =
     let same : signed_text w n ≡ int_text w n = rw (e, narrow) refl in
     subst (λ (k : Kind). IsText k (int_text w n)) kind (subst (λ (t : Text). IsText T.Int t) same (signed_by w n (nat_lt n (2 ^ (w - 1))) most fits refl))
 
+-- a constant of any type is a word
+filled_word : (fill : Fill) (τ : TypeTree) → IsText T.Word (filled_text fill τ)
+filled_word Z.Zero τ = by (is_pointer (shape τ))
+  where
+    by : (b : Bool) → IsText T.Word (if b then codes "null" else codes "zeroinitializer")
+    by true = IsText.word (codes "null") refl
+    by false = IsText.word (codes "zeroinitializer") refl
+filled_word Z.Undef τ = IsText.word (codes "undef") refl
+filled_word Z.Poison τ = IsText.word (codes "poison") refl
+
 pub said_free : (τ : TypeTree) (s : Said) → IsSaidOf τ s → IsFree (W.written_said s)
 said_free τ (L.Local t) h = apart_free T.Local t h
 said_free τ (L.Const c) (an_int w n most fits) = apart_free (W.int_kind w) (int_text w n) (int_by w n (w == 1) most fits refl)
+said_free τ (L.Const c) (a_filled fill υ own) = apart_free T.Word (filled_text fill υ) (filled_word fill υ)
 
 pub typed_free : (x : Typed) → IsTyped x → AreFree (W.written_typed x)
 typed_free x h = both_free (W.written_type (codes " ") x.type) (W.written_said x.said ∷ []) (type_free x.type h.type) (one_free (said_free x.type x.said h.said))

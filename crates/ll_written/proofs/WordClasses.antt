@@ -105,6 +105,9 @@ word_nneg = word_class (codes "nneg") 98 refl
 pub word_nsw : llvm_class Word (codes "nsw") ≡ 100
 word_nsw = word_class (codes "nsw") 100 refl
 
+pub word_null : llvm_class Word (codes "null") ≡ 101
+word_null = word_class (codes "null") 101 refl
+
 pub word_nuw : llvm_class Word (codes "nuw") ≡ 102
 word_nuw = word_class (codes "nuw") 102 refl
 

@@ -1,6 +1,8 @@
 -- The text that is printed of module data, a definition for each part.
 use Rattle.std.specs.Prelude.{ℕ, zero, suc, ◌-◌, ◌^◌, Bool, true, false, List, [], ◌∷◌, ◌++◌, Option, None, Some, nat_le, nat_lt, ◌==◌, if◌then◌else◌, drop, codes, decimal, slice_index_or}
 use Rattle.std.specs.List.{flat_map}
+use Rattle.kinds.specs.declared.fill.Fill.{Fill}
+use Rattle.kinds.specs.declared.fill.Fill.TheVariants as Z
 use Rattle.kinds.specs.declared.op.LLVMIntPredicate.{LLVMIntPredicate}
 use Rattle.kinds.specs.declared.op.LLVMIntPredicate.TheVariants as P
 use Rattle.kinds.specs.declared.op.OverflowFlags.{OverflowFlags}
@@ -14,8 +16,9 @@ use Rattle.kinds.specs.declared.types.VectorTypeKind.{VectorTypeKind}
 use Rattle.kinds.specs.declared.types.VectorTypeKind.TheVariants as V
 use Rattle.kinds.specs.declared.types.StructLayout.{StructLayout}
 use Rattle.kinds.specs.declared.types.StructLayout.TheVariants as L
-use Rattle.llvm_core.specs.Data.{TypeTree, VoidType, IntType, PointerType, FloatingType, RefusedType, ArrayType, VectorType, StructType, NamedType, FunctionType, TypeTrees, NoTypes, ThenType, ConstTree, IntConst, PlaceholderConst, Operand, Constant, Parameter, Result, Instruction, Phi, RowData, Applied, Placed, Block, Function, StructBody, Struct, ModuleData, operand_type, param_type}
-use Rattle.kinds.specs.Types.{result_of}
+use Rattle.llvm_core.specs.Data.{TypeTree, VoidType, IntType, PointerType, FloatingType, RefusedType, ArrayType, VectorType, StructType, NamedType, FunctionType, TypeTrees, NoTypes, ThenType, ConstTree, IntConst, FilledConst, PlaceholderConst, Operand, Constant, Parameter, Result, Instruction, Phi, RowData, Applied, Placed, Block, Function, StructBody, Struct, ModuleData, operand_type, param_type}
+use Rattle.kinds.specs.Fitting.{is_pointer}
+use Rattle.kinds.specs.Types.{result_of, shape}
 use Rattle.kinds.specs.Held.{is_void}
 use Rattle.ll_literals.specs.Text.{Text}
 use Rattle.ll_literals.specs.Names.{global, local, printed_name, printed_text}
@@ -100,9 +103,16 @@ int_text w v =
     if w == 1 then (if v == 0 then codes "false" else codes "true")
     else (if nat_le w 128 then signed_text w v else decimal v)
 
+-- zero, undef or poison of a type: null is the zero of a pointer
+abbrev pub filled_text : Fill → TypeTree → Text
+filled_text Z.Zero type = if is_pointer (shape type) then codes "null" else codes "zeroinitializer"
+filled_text Z.Undef type = codes "undef"
+filled_text Z.Poison type = codes "poison"
+
 -- a constant without its type, a line for each kind; a checked module has no placeholder
 abbrev pub const_text : ConstTree → Text
 const_text (IntConst w v) = int_text w v
+const_text (FilledConst fill type) = filled_text fill type
 const_text (PlaceholderConst number type) = []
 
 -- ---- instructions

@@ -3,12 +3,14 @@ use Rattle.std.specs.Prelude.{◌≡◌, ◌<◌, ◌≤◌, ◌^◌, ℕ, Bool,
 use Rattle.std.specs.List.{AllByRecursion}
 use Rattle.kinds.specs.Rules.{target_count, operand_count}
 use Rattle.kinds.specs.Table.{rule_of}
-use Rattle.kinds.specs.Types.{TypeTree, ArrayType, VectorType, StructType, NamedType, FunctionType, IntType, TypeTrees, NoTypes, ThenType}
+use Rattle.kinds.specs.Types.{TypeTree, ArrayType, VectorType, StructType, NamedType, FunctionType, IntType, TypeTrees, NoTypes, ThenType, shape}
 use Rattle.kinds.specs.Structs.{StructBody}
 use Rattle.kinds.specs.Held.{IsFirstClass, IsReturned}
 use Rattle.kinds.specs.Names.{is_good_name}
 use Rattle.kinds.specs.Typing.{fits_trees}
-use Rattle.llvm_core.specs.Data.{ConstTree, IntConst}
+use Rattle.kinds.specs.declared.fill.Fill.{Fill}
+use Rattle.kinds.specs.Fill.{is_own_fill}
+use Rattle.llvm_core.specs.Data.{ConstTree, IntConst, FilledConst}
 use Rattle.ll_tokens.specs.declared.kinds.Kind.TheVariants as K
 use Rattle.ll_lines.specs.Lines as L
 use Rattle.ll_lines.specs.Lines.{Text, Said, Typed, RowLine, Incoming, Inst, Line, Part, Param, Function, StructLine, File}
@@ -42,9 +44,10 @@ pub record IsSayableResult (τ : TypeTree) : Type 0 where
 
 -- ---- values
 
--- an integer of a type, of at most 64 bits
+-- a constant of one form of a type: an integer of at most 64 bits, or zero, undef or poison
 pub data IsConstOf : TypeTree → ConstTree → Type 0 where
   an_int : (w n : ℕ) → w ≤ 64 → n < 2 ^ w → IsConstOf (IntType w) (IntConst w n)
+  a_filled : (fill : Fill) (τ : TypeTree) → is_own_fill fill (shape τ) ≡ true → IsConstOf τ (FilledConst fill τ)
 
 abbrev pub IsLocal : Text → Type 0
 IsLocal t = IsText K.Local t

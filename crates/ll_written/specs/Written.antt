@@ -8,7 +8,7 @@ use Rattle.kinds.specs.declared.types.VectorTypeKind.TheVariants as V
 use Rattle.kinds.specs.declared.types.StructLayout.TheVariants as S
 use Rattle.kinds.specs.Types.{TypeTree, PointerType, ArrayType, VectorType, StructType, NamedType, TypeTrees, NoTypes, ThenType}
 use Rattle.kinds.specs.Structs.{StructBody}
-use Rattle.llvm_core.specs.Data.{ConstTree, IntConst, PlaceholderConst}
+use Rattle.llvm_core.specs.Data.{ConstTree, IntConst, FilledConst, PlaceholderConst}
 use Rattle.ll_tokens.specs.declared.kinds.Kind.{Kind}
 use Rattle.ll_tokens.specs.declared.kinds.Kind.TheVariants as K
 use Rattle.ll_lines.specs.Lines as L
@@ -75,6 +75,7 @@ int_kind w = if w == 1 then K.Word else K.Int
 
 abbrev pub const_kind : ConstTree → Kind
 const_kind (IntConst w n) = int_kind w
+const_kind (FilledConst fill τ) = K.Word
 const_kind (PlaceholderConst n τ) = K.Int
 
 abbrev pub written_said : Said → Spaced

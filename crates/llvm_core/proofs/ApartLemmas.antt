@@ -77,9 +77,9 @@ same_const_kinds m s cs k l p q h =
   where
     by : (k l : LLVMConstKind) → const_tree (type_trees m.types) cs k ≡ const_tree (type_trees m.types) cs l → const_type k ≡ const_type l → k ≡ l
     by (C.Int t v) (C.Int u w) h e = cc
-    by (C.Int t v) (C.Placeholder n u) h e = cc
-    by (C.Placeholder n t) (C.Int u w) h e = cc
+    by (C.Filled f t) (C.Filled g u) h e = cc
     by (C.Placeholder n t) (C.Placeholder k u) h e = cc
+    by k l h e = grind arith
 
 consts_apart : (m : Module) → IsModule m → (a b : LLVMConst) → a.0 < length m.consts → b.0 < length m.consts
     → get_or (const_trees (type_trees m.types) m.consts) a.0 (IntConst 0 0) ≡ get_or (const_trees (type_trees m.types) m.consts) b.0 (IntConst 0 0) → a ≡ b

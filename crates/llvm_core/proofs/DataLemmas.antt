@@ -13,6 +13,7 @@ use Rattle.llvm_core.specs.declared.numbers.LLVMInstRef.{LLVMInstRef}
 use Rattle.llvm_core.specs.declared.types.LLVMTypeKind.{LLVMTypeKind}
 use Rattle.llvm_core.specs.declared.types.LLVMTypeKind.TheVariants as T
 use Rattle.llvm_core.specs.declared.consts.LLVMConstKind.{LLVMConstKind}
+use Rattle.kinds.specs.declared.fill.Fill.{Fill}
 use Rattle.llvm_core.specs.declared.consts.LLVMConstKind.TheVariants as C
 use Rattle.llvm_core.specs.declared.code.FunctionData.{FunctionData}
 use Rattle.llvm_core.specs.declared.code.BlockData.{BlockData}
@@ -22,7 +23,7 @@ use Rattle.llvm_core.specs.Module.{Module}
 use Rattle.llvm_core.specs.Parts as parts
 use Rattle.llvm_core.specs.Parts.{IsConstOver}
 use Rattle.llvm_core.specs.Sound.{IsModule}
-use Rattle.llvm_core.specs.Data.{VoidType, IntType, FunctionType, ConstTree, IntConst, PlaceholderConst, Placed, Block, type_at, types_at, type_tree, const_at, const_tree, const_type, trees_of, placed_of, placed_at, block_of, block_at, function_of, data_of}
+use Rattle.llvm_core.specs.Data.{VoidType, IntType, FunctionType, ConstTree, IntConst, FilledConst, PlaceholderConst, Placed, Block, type_at, types_at, type_tree, const_at, const_tree, const_type, trees_of, placed_of, placed_at, block_of, block_at, function_of, data_of}
 use Rattle.llvm_core.proofs.TreeLemmas.{type_at-kind, const_at-kind}
 
 -- ---- types and constants
@@ -48,12 +49,16 @@ const_tree_of m c k at = const_at-kind (trees_of m).types m.consts c.0 k at
 pub int_const_of : (m : Module) (c : LLVMConst) (t : LLVMType) (value : ℕ) → slice_get m.consts c.0 ≡ Some (C.Int t value) → const_at (trees_of m).consts c ≡ IntConst (width_in (type_at (trees_of m).types t)) value
 int_const_of m c t value at = const_tree_of m c (C.Int t value) at
 
+pub filled_const_of : (m : Module) (c : LLVMConst) (fill : Fill) (t : LLVMType) → slice_get m.consts c.0 ≡ Some (C.Filled fill t) → const_at (trees_of m).consts c ≡ FilledConst fill (type_at (trees_of m).types t)
+filled_const_of m c fill t at = const_tree_of m c (C.Filled fill t) at
+
 pub placeholder_const_of : (m : Module) (c : LLVMConst) (number : ℕ) (t : LLVMType) → slice_get m.consts c.0 ≡ Some (C.Placeholder number t) → const_at (trees_of m).consts c ≡ PlaceholderConst number (type_at (trees_of m).types t)
 placeholder_const_of m c number t at = const_tree_of m c (C.Placeholder number t) at
 
 -- the type of a constant's tree is the tree of its type
 pub const_tree_typed : (m : Module) (cs : List ConstTree) (k : LLVMConstKind) → IsModule m → IsConstOver m.types k → const_type (const_tree (trees_of m).types cs k) ≡ type_at (trees_of m).types (parts.const_type k)
 const_tree_typed m cs (C.Int t value) s h = let e = int_tree_of m t h.0 s h.1 in cc
+const_tree_typed m cs (C.Filled fill t) s h = refl
 const_tree_typed m cs (C.Placeholder number t) s h = refl
 
 pub const_type_of : (m : Module) (c : LLVMConst) (k : LLVMConstKind) → IsModule m → slice_get m.consts c.0 ≡ Some k → const_type (const_at (trees_of m).consts c) ≡ type_at (trees_of m).types (parts.const_type k)

@@ -28,7 +28,7 @@ use Rattle.llvm_core.specs.Sound.{IsModule, StandsFor}
 use Rattle.llvm_core.specs.Data.{TypeTree, Operand, Instruction, type_at, const_at, trees_of, entry_of, operand_of, row_of, instruction_of, operand_type, structs_of, targets, AreApart}
 use Rattle.llvm_core.specs.Data as D
 use Rattle.llvm_core.specs.Checked.{returns_void, MisfitsType, misfits_row, misfits_return, is_counted, HasOtherType, HasTwoValues, misfits_count, HasNoPreds, is_outside, is_block_outside, is_entry_outside, reaches_outside, MisfitsEdges, sources, is_deep, is_deep_value}
-use Rattle.llvm_core.specs.Form.{IsOperandOf, IsOperand, IsTarget, FitsEdges, edges_between, IsFormRow, IsFormInstruction, operands_of}
+use Rattle.llvm_core.specs.Form.{IsOperand, IsTarget, FitsEdges, edges_between, IsFormRow, IsFormInstruction, operands_of}
 use Rattle.llvm_core.proofs.DataLemmas.{within_at}
 use Rattle.llvm_core.proofs.GivenLemmas.{none_any, none_any_at}
 use Rattle.llvm_core.proofs.DepthLemmas.{any_mapped}
@@ -152,22 +152,22 @@ module _ (m : Module) (f : ℕ) (x : FunctionData) (sound : IsModule m) (apart :
 
     -- ---- depth
 
-    module _ (nested : (o : Operand) → IsOperandOf (shown m f x) o → IsNested (structs_of m) (operand_type (shown m f x) o)) where
-      operand_shallow : (v : LLVMValue) → IsValue m v → is_outside m (numbered f) v ≡ false → IsOperandOf (shown m f x) (operand_of (trees_of m) v) → is_deep_value m v ≡ false
-      operand_shallow v here inside stands =
-          let t = value_typed m f x sound at v here inside in
-          ap (λ o. option_map_or (is_deep m) o false) t.type_is ∙ ap (λ (τ : TypeTree). not (nests (structs_of m) deepest τ)) t.tree_is ∙ ap not (nested (operand_of (trees_of m) v) stands)
+    operand_shallow : (v : LLVMValue) → IsValue m v → is_outside m (numbered f) v ≡ false → IsNested (structs_of m) (operand_type (shown m f x) (operand_of (trees_of m) v)) → is_deep_value m v ≡ false
+    operand_shallow v here inside nested =
+        let t = value_typed m f x sound at v here inside in
+        ap (λ o. option_map_or (is_deep m) o false) t.type_is ∙ ap (λ (τ : TypeTree). not (nests (structs_of m) deepest τ)) t.tree_is ∙ ap not nested
 
-      -- no operand is of a type that nests too deep
-      pub operands_shallow : (i : LLVMInst) → HasValues m i → IsFormInstruction (shown m f x) b type (instruction_of (trees_of m) i) → list_any (is_deep_value m) (operands i) ≡ false
-      operands_shallow (I.Phi own entries) here form = any_mapped (is_deep_value m) (λ (e : PhiEntry). e.value) entries ∙ none_any (λ (e : PhiEntry). is_deep_value m e.value) entries (λ k e is.
-          let o = entry_operand entries k e type form.0 is in
-          operand_shallow e.value (within_at entries (IsEntry m) here.1 k e is).0 (operand_inside e.value type o) o.stands)
-      operands_shallow (I.Row r) here form = none_any (is_deep_value m) r.operands (λ k v is.
-          let os = map (operand_of (trees_of m)) r.operands in
-          let shown_at = slice_get-map (operand_of (trees_of m)) r.operands k ∙ ap (option_map (operand_of (trees_of m))) is in
-          operand_shallow v (within_at r.operands (IsValue m) here.0 k v is) (none_any_at (is_outside m (numbered f)) r.operands k v (values_inside m f x sound at r.operands form.operands) is)
-          (within_at os (IsOperandOf (shown m f x)) form.operands k (operand_of (trees_of m) v) shown_at))
+    -- no operand is of a type that nests too deep
+    pub operands_shallow : (i : LLVMInst) → ((k : ℕ) (o : Operand) → slice_get (operands_of (instruction_of (trees_of m) i)) k ≡ Some o → IsNested (structs_of m) (operand_type (shown m f x) o))
+        → HasValues m i → IsFormInstruction (shown m f x) b type (instruction_of (trees_of m) i) → list_any (is_deep_value m) (operands i) ≡ false
+    operands_shallow (I.Phi own entries) nested here form = any_mapped (is_deep_value m) (λ (e : PhiEntry). e.value) entries ∙ none_any (λ (e : PhiEntry). is_deep_value m e.value) entries (λ k e is.
+        let o = entry_operand entries k e type form.0 is in
+        let shown_at = slice_get-map (λ (o : Operand × ℕ). o.0) (map (entry_of (trees_of m)) entries) k ∙ ap (option_map (λ (o : Operand × ℕ). o.0)) (entry_at m entries k e is) in
+        operand_shallow e.value (within_at entries (IsEntry m) here.1 k e is).0 (operand_inside e.value type o) (nested k (operand_of (trees_of m) e.value) shown_at))
+    operands_shallow (I.Row r) nested here form = none_any (is_deep_value m) r.operands (λ k v is.
+        let shown_at = slice_get-map (operand_of (trees_of m)) r.operands k ∙ ap (option_map (operand_of (trees_of m))) is in
+        operand_shallow v (within_at r.operands (IsValue m) here.0 k v is) (none_any_at (is_outside m (numbered f)) r.operands k v (values_inside m f x sound at r.operands form.operands) is)
+        (nested k (operand_of (trees_of m) v) shown_at))
 
     -- ---- the entries of a phi
 

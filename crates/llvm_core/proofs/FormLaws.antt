@@ -230,7 +230,8 @@ module _ (m : Module) (sound : IsModule m) (apart : AreApart m) (form : IsForm (
       let shown_at = function_at m p.f p.function p.function_is in
       let result = result_nests (data_of m) form.nested p.f (shown m p.f p.function) here.0 (shown_inst m i z) shown_at here.1 in
       or_from (is_deep m z.ty) (list_any (is_deep_value m) (operands z.inst)) (ap not result)
-      (operands_shallow m p.f p.function sound apart p.function_is z.block.0 (shown_inst m i z).type (operand_nests (data_of m) form.nested p.f (shown m p.f p.function) shown_at) z.inst (sound.insts i z at).values p.form_is)
+      (operands_shallow m p.f p.function sound apart p.function_is z.block.0 (shown_inst m i z).type z.inst
+      (λ k o is. operand_nests (data_of m) form.nested p.f (shown m p.f p.function) shown_at here.0 (shown_inst m i z) k o here.1 is) (sound.insts i z at).values p.form_is)
 
   depths_checked : IsCheckedDepths m
   depths_checked = record {

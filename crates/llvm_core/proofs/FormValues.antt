@@ -7,6 +7,7 @@ use Rattle.std.proofs.lemmas.List.Elements.{All-nil, All-cons, All-head, All-tai
 use Rattle.support.proofs.ListLaws.{item_there}
 use Rattle.kinds.specs.declared.rules.Takes.{Takes}
 use Rattle.kinds.specs.declared.rules.Takes.TheVariants as O
+use Rattle.kinds.specs.Fill.{is_own_fill}
 use Rattle.kinds.specs.Types.{result_of}
 use Rattle.kinds.specs.Held.{width_in, IsFirstClass}
 use Rattle.kinds.specs.Held.{is_void as void_tree}
@@ -27,11 +28,12 @@ use Rattle.llvm_core.specs.Parts.{const_type as type_of_const}
 use Rattle.llvm_core.specs.Sound.{IsModule}
 use Rattle.llvm_core.specs.Data.{TypeTree, VoidType, IntConst, Operand, Constant, Placed, const_at, type_at, trees_of, const_type, operand_of, param_type, nth_type, placed_in, operand_type}
 use Rattle.llvm_core.specs.Checked.{home, is_placeholder, is_outside, return_type, returns_void, returns_other, misfits_return}
-use Rattle.llvm_core.specs.Form.{IsShortConst, IsNarrowConst, HasNumber, IsOperandOf, IsReturning, types_of}
+use Rattle.llvm_core.specs.Form.{IsFormConst, IsNarrowConst, HasNumber, IsOperandOf, IsReturning, types_of}
 use Rattle.llvm_core.specs.Form.{returns_void as void_returned}
 use Rattle.llvm_core.proofs.ApartLemmas.{apart, same_type}
 use Rattle.llvm_core.proofs.RuleLaws.{tree_of}
-use Rattle.llvm_core.proofs.DataLemmas.{within_at, int_tree_of, const_tree_of, const_type_of, placeholder_const_of}
+use Rattle.llvm_core.proofs.DataLemmas.{within_at, int_tree_of, const_tree_of, const_type_of, filled_const_of, placeholder_const_of}
+use Rattle.llvm_core.proofs.WholeTypes.{shape_there}
 use Rattle.llvm_core.proofs.WithinLemmas.{const_type_within}
 use Rattle.llvm_core.proofs.FormTypes.{numbered, signature_of, function_typed, param_types_are, nth_is, return_type_is, void_kept}
 use Rattle.llvm_core.proofs.FormPlaces.{shown, own_inst, in_home}
@@ -127,15 +129,18 @@ module _ (m : Module) (f : ℕ) (x : FunctionData) (sound : IsModule m) (at : sl
   abbrev pub IsNarrowHere : Operand → Type 0
   IsNarrowHere o = IsFirstClass (operand_type (shown m f x) o) × IsNarrowConst o
 
-  const_short : (c : LLVMConst) → IsValue m (V.Const c) → is_outside m (numbered f) (V.Const c) ≡ false → IsNarrowHere (operand_of (trees_of m) (V.Const c)) → IsShortConst (const_at (trees_of m).consts c)
+  const_short : (c : LLVMConst) → IsValue m (V.Const c) → is_outside m (numbered f) (V.Const c) ≡ false → IsNarrowHere (operand_of (trees_of m) (V.Const c)) → IsFormConst (const_at (trees_of m).consts c)
   const_short c here inside narrow = let k = item_there m.consts c.0 here in by k.0 k.1 (ap (λ o. option_map_or is_placeholder o false) (sym k.1) ∙ inside)
     where
-      by : (k : LLVMConstKind) → slice_get m.consts c.0 ≡ Some k → is_placeholder k ≡ false → IsShortConst (const_at (trees_of m).consts c)
+      by : (k : LLVMConstKind) → slice_get m.consts c.0 ≡ Some k → is_placeholder k ≡ false → IsFormConst (const_at (trees_of m).consts c)
       by (C.Int t v) is none =
           let typed = sound.consts c.0 (C.Int t v) is in
           let const : const_at (trees_of m).consts c ≡ IntConst typed.0 v =
           const_tree_of m c (C.Int t v) is ∙ ap (λ (u : TypeTree). IntConst (width_in u) v) (int_tree_of m t typed.0 sound typed.1) in
           rw const (((first_class_int typed.0 (subst (λ k. IsFirstClass (const_type k)) const narrow.0)).0, subst (λ k. IsNarrowConst (Constant k)) const narrow.1), typed.2)
+      by (C.Filled fill t) is none =
+          let own = (sound.consts c.0 (C.Filled fill t) is).1 in
+          rw (filled_const_of m c fill t is) (ap (is_own_fill fill) (sym (shape_there m sound t (sound.consts c.0 (C.Filled fill t) is).0)) ∙ own)
       by (C.Placeholder number t) is none = absurd cc
 
   -- a value that is there and is not outside is an operand of the function, where it is narrow
@@ -147,9 +152,10 @@ module _ (m : Module) (f : ℕ) (x : FunctionData) (sound : IsModule m) (at : sl
       (same, omega (arith, here, named))
   value_stands (V.Inst i) here inside narrow = inst_stands i here inside
 
-  const_inside : (c : LLVMConst) → IsShortConst (const_at (trees_of m).consts c) → (o : Option LLVMConstKind) → slice_get m.consts c.0 ≡ o → option_map_or is_placeholder o false ≡ false
+  const_inside : (c : LLVMConst) → IsFormConst (const_at (trees_of m).consts c) → (o : Option LLVMConstKind) → slice_get m.consts c.0 ≡ o → option_map_or is_placeholder o false ≡ false
   const_inside c h None e = refl
   const_inside c h (Some (C.Int t value)) e = refl
+  const_inside c h (Some (C.Filled fill t)) e = refl
   const_inside c h (Some (C.Placeholder number t)) e = absurd (rw (placeholder_const_of m c number t e) at h)
 
   -- an operand of the function is not outside

@@ -25,10 +25,11 @@ use Rattle.llvm_core.specs.declared.code.BlockData.{BlockData}
 use Rattle.llvm_core.specs.declared.code.InstData.{InstData}
 use Rattle.llvm_core.specs.Module.{Module}
 use Rattle.llvm_core.specs.Code.{param_names}
-use Rattle.llvm_core.specs.Parts.{IsConstOver, IsFunctionType, IsValue, HasValues, IsBlock, IsEntry, const_type, type_params, kind_params, param_types, value_type, result_type, IsResultType, type_nth, view_nth, view, shape_of}
+use Rattle.llvm_core.specs.Parts.{IsConstOver, IsFunctionType, IsValue, HasValues, IsBlock, IsEntry, const_type, type_params, kind_params, param_types, value_type, result_type, IsResultType, type_nth, view_nth, view, shape_of, shape_at}
 use Rattle.std.proofs.Common.{All, zero, suc, ◌∷◌}
 use Rattle.std.specs.Prelude.{IfSome}
 use Rattle.std.proofs.lemmas.List.Elements.{All-head, All-tail}
+use Rattle.kinds.specs.Fill.{is_own_fill}
 use Rattle.kinds.specs.declared.fitting.Shape.{Shape}
 use Rattle.kinds.specs.declared.fitting.Shape.TheVariants as S
 use Rattle.kinds.specs.declared.fitting.TypeView.{TypeView}
@@ -70,8 +71,12 @@ pub record Grows (m n : Module) : Type 0 where
 
 -- ---- what is right stays right in a module that has more
 
+same_shape : (m n : Module) → Grows m n → (t : LLVMType) → t.0 < length m.types → shape_at n.types t ≡ shape_at m.types t
+same_shape m n g t within = let k = item_there m.types t.0 within in ap (λ o. option_map_or shape_of o S.Void) (g.types t.0 k.0 k.1 ∙ sym k.1)
+
 pub const_kept : (m n : Module) → Grows m n → (k : LLVMConstKind) → IsConstOver m.types k → IsConstOver n.types k
 const_kept m n g (C.Int t v) h = (h.0, g.types t.0 _ h.1, h.2)
+const_kept m n g (C.Filled fill t) h = (omega (arith, g.type_count, h.0), ap (is_own_fill fill) (same_shape m n g t h.0) ∙ h.1)
 const_kept m n g (C.Placeholder number t) h = omega (arith, g.type_count, h)
 
 pub params_kept : (m n : Module) → Grows m n → (t : LLVMType) → IsFunctionType m.types t → type_params m.types t ≡ type_params n.types t

@@ -48,3 +48,4 @@ pub mod BodyFrames
 pub mod BodySound
 pub mod BodyData
 pub mod BodyTypes
+pub mod OneForm

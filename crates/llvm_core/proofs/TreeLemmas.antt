@@ -10,7 +10,7 @@ use Rattle.llvm_core.specs.declared.consts.LLVMConstKind.{LLVMConstKind}
 use Rattle.llvm_core.specs.declared.consts.LLVMConstKind.TheVariants as C
 use Rattle.kinds.specs.Held.{width_in}
 use Rattle.llvm_core.specs.Parts.{IsTypeOver, IsConstOver}
-use Rattle.llvm_core.specs.Data.{TypeTree, VoidType, ArrayType, VectorType, StructType, ConstTree, IntConst, PlaceholderConst, trees_after, type_at, types_at, type_tree, type_trees, const_tree, const_trees}
+use Rattle.llvm_core.specs.Data.{TypeTree, VoidType, ArrayType, VectorType, StructType, ConstTree, IntConst, FilledConst, PlaceholderConst, trees_after, type_at, types_at, type_tree, type_trees, const_tree, const_trees}
 
 -- ---- of any kind, whose tree is told by the trees of its parts
 
@@ -86,6 +86,7 @@ type_at-kept ks ls t lt =
 
 same_const_tree : (types : List LLVMTypeKind) (ts us : List TypeTree) → ((t : LLVMType) → t.0 < length types → type_at ts t ≡ type_at us t) → (cs : List ConstTree) (k : LLVMConstKind) → IsConstOver types k → const_tree ts cs k ≡ const_tree us cs k
 same_const_tree types ts us same cs (C.Int t v) h = ap (λ (x : TypeTree). IntConst (width_in x) v) (same t (slice_get_within types t.0 _ h.1))
+same_const_tree types ts us same cs (C.Filled fill t) h = ap (FilledConst fill) (same t h.0)
 same_const_tree types ts us same cs (C.Placeholder number t) h = ap (PlaceholderConst number) (same t h)
 
 consts_after : (types : List LLVMTypeKind) (ts us : List TypeTree) → ((t : LLVMType) → t.0 < length types → type_at ts t ≡ type_at us t) → (done : List ConstTree) (ks : List LLVMConstKind) → ((i : ℕ) (k : LLVMConstKind) → slice_get ks i ≡ Some k → IsConstOver types k) → trees_after (const_tree ts) done ks ≡ trees_after (const_tree us) done ks
@@ -105,6 +106,7 @@ const_at-kept ts ks ls c lt =
 
 same_parts : (ts : List TypeTree) (cs ds : List ConstTree) (n : ℕ) → ((j : ℕ) → j < n → get_or cs j (IntConst 0 0) ≡ get_or ds j (IntConst 0 0)) → (k : LLVMConstKind) → Unit {0} → const_tree ts cs k ≡ const_tree ts ds k
 same_parts ts cs ds n same (C.Int t v) h = refl
+same_parts ts cs ds n same (C.Filled fill t) h = refl
 same_parts ts cs ds n same (C.Placeholder number t) h = refl
 
 pub const_at-kind : (ts : List TypeTree) (ks : List LLVMConstKind) (c : ℕ) (k : LLVMConstKind) → slice_get ks c ≡ Some k → get_or (const_trees ts ks) c (IntConst 0 0) ≡ const_tree ts (const_trees ts ks) k

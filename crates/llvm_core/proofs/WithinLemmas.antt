@@ -30,6 +30,7 @@ use Rattle.llvm_core.specs.Sound.{IsModule}
 
 pub const_type_within : (types : List LLVMTypeKind) (k : LLVMConstKind) → IsConstOver types k → (const_type k).0 < length types
 const_type_within types (C.Int t v) h = slice_get_within types t.0 _ h.1
+const_type_within types (C.Filled fill t) h = h.0
 const_type_within types (C.Placeholder number t) h = h
 
 pub param_within : (m : Module) (f : LLVMFunction) (place : ℕ) (x : FunctionData) (k : LLVMTypeKind) (d : LLVMType) → IsModule m

@@ -206,6 +206,7 @@ misfits_count m f (I.Row r) = not (is_counted m f r)
 abbrev pub is_placeholder : LLVMConstKind → Bool
 is_placeholder (C.Placeholder number type) = true
 is_placeholder (C.Int type value) = false
+is_placeholder (C.Filled fill type) = false
 
 -- a parameter or result of another function than f, or a placeholder
 abbrev pub is_outside : Module → LLVMFunction → LLVMValue → Bool

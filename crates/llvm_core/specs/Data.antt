@@ -22,7 +22,9 @@ use Rattle.llvm_core.specs.declared.code.Row.{Row}
 use Rattle.kinds.specs.declared.op.Op.{Op}
 pub use Rattle.kinds.specs.Types.{TypeTree, VoidType, IntType, PointerType, FloatingType, RefusedType, ArrayType, VectorType, StructType, NamedType, FunctionType, TypeTrees, NoTypes, ThenType}
 pub use Rattle.kinds.specs.Structs.{StructBody, Struct}
-use Rattle.kinds.specs.Types.{takes_of}
+use Rattle.kinds.specs.declared.fill.Fill.{Fill}
+use Rattle.kinds.specs.Fill.{is_own_fill}
+use Rattle.kinds.specs.Types.{shape, takes_of}
 use Rattle.kinds.specs.Held.{width_in}
 use Rattle.llvm_core.specs.declared.structs.StructFields.{StructFields}
 use Rattle.llvm_core.specs.declared.structs.StructData.{StructData}
@@ -37,6 +39,7 @@ use Rattle.llvm_core.specs.Parts.{result_type}
 -- a constant, a line for each kind
 pub data ConstTree : Type 0 where
   IntConst : (width value : ℕ) → ConstTree
+  FilledConst : (fill : Fill) (type : TypeTree) → ConstTree
   PlaceholderConst : (number : ℕ) (type : TypeTree) → ConstTree
 
 -- what an operand names
@@ -120,10 +123,15 @@ const_at cs c = slice_index_or cs c.0 (IntConst 0 0)
 
 abbrev pub const_tree : List TypeTree → List ConstTree → LLVMConstKind → ConstTree
 const_tree ts cs (C.Int t v) = IntConst (width_in (type_at ts t)) v
+const_tree ts cs (C.Filled fill t) = FilledConst fill (type_at ts t)
 const_tree ts cs (C.Placeholder number t) = PlaceholderConst number (type_at ts t)
 
 abbrev pub const_trees : List TypeTree → List LLVMConstKind → List ConstTree
 const_trees ts ks = trees_after (const_tree ts) [] ks
+
+-- zero, undef or poison of a type in one form: the zero of an integer type is the integer 0
+abbrev pub filled_const : Fill → TypeTree → ConstTree
+filled_const fill type = if is_own_fill fill (shape type) then FilledConst fill type else IntConst (width_in type) 0
 
 -- the trees that numbers of types and constants stand for
 pub record Trees : Type 0 where
@@ -221,6 +229,7 @@ param_type t i = nth_type (takes_of t) i
 -- a line for each kind of constant
 abbrev pub const_type : ConstTree → TypeTree
 const_type (IntConst width value) = IntType width
+const_type (FilledConst fill type) = type
 const_type (PlaceholderConst number type) = type
 
 -- the instructions of a function, block after block

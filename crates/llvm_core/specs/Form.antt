@@ -4,13 +4,14 @@ use Rattle.std.specs.Prelude.{◌≡◌, ◌<◌, ◌≤◌, ◌^◌, ℕ, suc, 
 use Rattle.std.specs.List.{flat_map}
 use Rattle.std.specs.Option.{option_map_or}
 use Rattle.kinds.specs.Structs.{IsFormStruct, IsNested}
-use Rattle.llvm_core.specs.Data.{TypeTree, VoidType, FunctionType, NamedType, TypeTrees, StructBody, Struct, ConstTree, IntConst, PlaceholderConst, Operand, Constant, Parameter, Result, RowData, Instruction, Phi, Applied, Placed, Block, Function, ModuleData, operand_type, placed_in, targets, phi_entries}
+use Rattle.llvm_core.specs.Data.{TypeTree, VoidType, FunctionType, NamedType, TypeTrees, StructBody, Struct, ConstTree, IntConst, FilledConst, PlaceholderConst, Operand, Constant, Parameter, Result, RowData, Instruction, Phi, Applied, Placed, Block, Function, ModuleData, const_type, operand_type, placed_in, targets, phi_entries}
 use Rattle.kinds.specs.declared.rules.Takes.{Takes}
 use Rattle.kinds.specs.declared.rules.Takes.TheVariants as O
 use Rattle.kinds.specs.Rules.{ends, target_count, operand_count}
 use Rattle.kinds.specs.Table.{rule_of}
 use Rattle.kinds.specs.Typing.{fits_trees, typed}
-use Rattle.kinds.specs.Types.{types_list, count_types, result_of, params_of}
+use Rattle.kinds.specs.Fill.{is_own_fill}
+use Rattle.kinds.specs.Types.{shape, types_list, count_types, result_of, params_of}
 use Rattle.kinds.specs.Held.{is_void, IsShallow, IsFirstClass, IsReturned, IsHeldResult, IsShortWidth}
 use Rattle.llvm_core.specs.Edges.{count_of}
 use Rattle.support.specs.Interned.{IsDistinctList}
@@ -19,18 +20,20 @@ use Rattle.llvm_core.specs.Checked.{ends_in_only, named}
 
 -- ---- types and operands
 
--- an integer of 1 to 64 bits
-abbrev pub IsShortConst : ConstTree → Type 0
-IsShortConst (IntConst w v) = IsShortWidth w × (v < 2 ^ w)
-IsShortConst (PlaceholderConst n type) = ⊥
+-- a constant of the form: an integer of 1 to 64 bits, undef, poison, or the zero of what is no integer type; of which type it
+-- may be is asked where it stands
+abbrev pub IsFormConst : ConstTree → Type 0
+IsFormConst (IntConst w v) = IsShortWidth w × (v < 2 ^ w)
+IsFormConst (FilledConst fill type) = is_own_fill fill (shape type) ≡ true
+IsFormConst (PlaceholderConst n type) = ⊥
 
 -- one of the instructions has that number
 abbrev pub HasNumber : ℕ → List Placed → Type 0
 HasNumber n ps = (i : ℕ) × (p : Placed) × (slice_get ps i ≡ Some p) × (p.number ≡ n)
 
--- an integer of 1 to 64 bits, a parameter of the function f, or the result of an instruction of it
+-- a constant of the form, a parameter of the function f, or the result of an instruction of it
 abbrev pub IsOperandOf : Function → Operand → Type 0
-IsOperandOf f (Constant c) = IsShortConst c
+IsOperandOf f (Constant c) = IsFormConst c
 IsOperandOf f (Parameter g i) = (g ≡ f.number) × (i < length f.params)
 IsOperandOf f (Result n) = HasNumber n (placed_in f)
 
@@ -143,9 +146,24 @@ pub record IsFormFunction (f : Function) : Type 0 where
   pub block_numbers : IsDistinctList (map (λ (b : Block). b.number) f.blocks)
   pub numbers : IsDistinctList (map (λ (p : Placed). p.number) (placed_in f))
 
--- the types in use: that of each struct, of each function and of each result
+-- the operands of an instruction in order
+abbrev pub operands_of : Instruction → List Operand
+operands_of (Phi entries) = map (λ (e : Operand × ℕ). e.0) entries
+operands_of (Applied r) = r.operands
+
+-- the type of an operand that is a constant
+abbrev pub constant_type : Operand → List TypeTree
+constant_type (Constant c) = const_type c ∷ []
+constant_type (Parameter g i) = []
+constant_type (Result n) = []
+
+-- the types of the constants that an instruction uses
+abbrev pub constant_types : Placed → List TypeTree
+constant_types p = flat_map constant_type (operands_of p.instruction)
+
+-- the types in use: that of each struct, of each function, of each result and of each constant
 abbrev pub types_in : ModuleData → List TypeTree
-types_in d = map (λ (s : Struct). NamedType s.name) d.structs ++ map (λ (f : Function). f.type) d.functions ++ map (λ (p : Placed). p.type) (flat_map placed_in d.functions)
+types_in d = map (λ (s : Struct). NamedType s.name) d.structs ++ map (λ (f : Function). f.type) d.functions ++ map (λ (p : Placed). p.type) (flat_map placed_in d.functions) ++ flat_map constant_types (flat_map placed_in d.functions)
 
 -- a module of the form, whatever its own name is: no type in use nests too deep through the fields of structs
 pub record IsForm (d : ModuleData) : Type 0 where
@@ -155,10 +173,10 @@ pub record IsForm (d : ModuleData) : Type 0 where
 
 -- ---- what is translated
 
--- the types of a function's values: of what it returns and takes, and of each instruction's result, void where it has
--- none. A constant is an integer.
+-- the types of a function's values: of what it returns and takes, of each instruction's result, void where it has none, and
+-- of the constants that instructions use
 abbrev pub value_types : Function → List TypeTree
-value_types f = result_of f.type ∷ params_of f.type ++ map (λ (p : Placed). p.type) (placed_in f)
+value_types f = result_of f.type ∷ params_of f.type ++ map (λ (p : Placed). p.type) (placed_in f) ++ flat_map constant_types (placed_in f)
 
 -- each value of the function is of a type that is translated, as far as the type itself says: what stands in the structs
 -- that it names is not looked at
@@ -167,14 +185,10 @@ IsHeldFunction f = All IsHeldResult (value_types f)
 
 -- ---- what the form asks beside the rules of a checked module
 
--- the operands of an instruction in order
-abbrev pub operands_of : Instruction → List Operand
-operands_of (Phi entries) = map (λ (e : Operand × ℕ). e.0) entries
-operands_of (Applied r) = r.operands
-
--- a constant that is translated has at most 64 bits; of another operand it is not asked
+-- an integer constant that is translated has at most 64 bits; of another operand nothing is asked
 abbrev pub IsNarrowConst : Operand → Type 0
 IsNarrowConst (Constant (IntConst w v)) = w ≤ 64
+IsNarrowConst (Constant (FilledConst fill type)) = Unit {0}
 IsNarrowConst (Constant (PlaceholderConst n type)) = Unit {0}
 IsNarrowConst (Parameter g i) = Unit {0}
 IsNarrowConst (Result n) = Unit {0}

@@ -22,6 +22,7 @@ use Rattle.kinds.specs.declared.fitting.Shape.{Shape}
 use Rattle.kinds.specs.declared.fitting.Shape.TheVariants as S
 use Rattle.kinds.specs.declared.fitting.TypeView.{TypeView}
 use Rattle.kinds.specs.Table.{rule_of}
+use Rattle.kinds.specs.Fill.{is_own_fill}
 use Rattle.kinds.specs.Fitting as F
 use Rattle.kinds.specs.Fitting.{fits, view_shape, view_same}
 use Rattle.llvm_core.specs.declared.code.FunctionData.{FunctionData}
@@ -45,11 +46,6 @@ IsTypeOver n (T.Literal fields layout) = All (λ (t : LLVMType). t.0 < n) fields
 IsTypeOver n (T.Named name) = Unit {0}
 IsTypeOver n (T.Function result params variadic) = (result.0 < n) × All (λ (t : LLVMType). t.0 < n) params
 
--- a constant over a list of types: an integer of an integer type, which it fits, or a placeholder of a type that is there
-abbrev pub IsConstOver : List LLVMTypeKind → LLVMConstKind → Type 0
-IsConstOver types (C.Int t value) = (width : ℕ) × (slice_get types t.0 ≡ Some (T.Int width)) × (value < 2 ^ width)
-IsConstOver types (C.Placeholder number t) = t.0 < length types
-
 -- what rules look at, a line for each kind
 abbrev pub shape_of : LLVMTypeKind → Shape
 shape_of T.Void = S.Void
@@ -66,6 +62,25 @@ shape_of (T.Function result params variadic) = S.Function
 -- that of a type that is there
 abbrev pub shape_at : List LLVMTypeKind → LLVMType → Shape
 shape_at types t = option_map_or shape_of (slice_get types t.0) S.Void
+
+-- a constant of one form over a list of types: an integer of an integer type, which it fits, zero, undef or poison of a type
+-- that is there but the zero of an integer type, or a placeholder of a type that is there
+abbrev pub IsConstOver : List LLVMTypeKind → LLVMConstKind → Type 0
+IsConstOver types (C.Int t value) = (width : ℕ) × (slice_get types t.0 ≡ Some (T.Int width)) × (value < 2 ^ width)
+IsConstOver types (C.Filled fill t) = (t.0 < length types) × (is_own_fill fill (shape_at types t) ≡ true)
+IsConstOver types (C.Placeholder number t) = t.0 < length types
+
+-- what a constant may be made of, whether that is its one form or not
+abbrev pub HasConstParts : List LLVMTypeKind → LLVMConstKind → Type 0
+HasConstParts types (C.Int t value) = IsConstOver types (C.Int t value)
+HasConstParts types (C.Filled fill t) = t.0 < length types
+HasConstParts types (C.Placeholder number t) = t.0 < length types
+
+-- the one form of a constant: the zero of an integer type is the integer 0
+abbrev pub one_form : List LLVMTypeKind → LLVMConstKind → LLVMConstKind
+one_form types (C.Int t value) = C.Int t value
+one_form types (C.Filled fill t) = if is_own_fill fill (shape_at types t) then C.Filled fill t else C.Int t 0
+one_form types (C.Placeholder number t) = C.Placeholder number t
 
 -- a type is made of what may stand in it, a line for each kind
 abbrev pub HasFitParts : List LLVMTypeKind → LLVMTypeKind → Type 0
@@ -117,6 +132,7 @@ IsValue m (V.Inst i) = i.0 < length m.insts
 
 abbrev pub const_type : LLVMConstKind → LLVMType
 const_type (C.Int t value) = t
+const_type (C.Filled fill t) = t
 const_type (C.Placeholder number t) = t
 
 -- the types of the parameters of a function

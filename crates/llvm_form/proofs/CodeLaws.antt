@@ -28,7 +28,7 @@ use Rattle.llvm_core.specs.Sound.{IsModule}
 use Rattle.llvm_core.specs.Data.{Operand, Constant, Block, type_at, trees_of, operand_of, entry_of, instruction_of, operand_type}
 use Rattle.llvm_core.specs.Checked.{IsChecked, home, is_void, is_outside, is_block_outside, is_entry_outside, reaches_outside, is_deep, is_deep_value, is_deep_inst}
 use Rattle.llvm_core.specs.Form.{IsNarrowConst, IsNarrowPlaced, IsNarrowBlock, operands_of}
-use Rattle.llvm_core.proofs.DataLemmas.{within_at, inst_of_number, int_const_of, placeholder_const_of}
+use Rattle.llvm_core.proofs.DataLemmas.{within_at, inst_of_number, int_const_of, filled_const_of, placeholder_const_of}
 use Rattle.llvm_core.proofs.WithinLemmas.{const_type_within}
 use Rattle.llvm_core.proofs.GivenLemmas.{none_any_at}
 use Rattle.llvm_core.proofs.FormTypes.{numbered, kind_kept, void_kept}
@@ -70,6 +70,8 @@ module _ (m : Module) (sound : IsModule m) (f : ℕ) (x : FunctionData) (at : sl
           let short : Decides (nat_le width 64) (width ≤ 64) = (λ e. leb-true width 64 e, λ h. le-leb width 64 h) in
           Decides-at (is_narrow_const m (V.Const c)) (nat_le width 64) (ap (λ o. option_map_or (is_short_const m.types) o true) is ∙ kind_kept m (λ s. nat_le (width_of s) 64) t sound within)
           (subst (λ k. Decides (nat_le width 64) (IsNarrowConst (Constant k))) (sym (int_const_of m c t value is)) short)
+      by (C.Filled fill t) is =
+          (λ e. subst (λ k. IsNarrowConst (Constant k)) (sym (filled_const_of m c fill t is)) tt, λ h. ap (λ o. option_map_or (is_short_const m.types) o true) is)
       by (C.Placeholder number t) is =
           (λ e. subst (λ k. IsNarrowConst (Constant k)) (sym (placeholder_const_of m c number t is)) tt, λ h. ap (λ o. option_map_or (is_short_const m.types) o true) is)
   const_decided (V.Param g place) here = (λ e. tt, λ h. refl)

@@ -22,7 +22,7 @@ use Rattle.llvm_core.specs.Module.{Module}
 use Rattle.llvm_core.specs.Names.{is_good_name, IsGoodOrNone}
 use Rattle.llvm_core.specs.Parts.{is_kind}
 use Rattle.llvm_core.specs.Sound.{AreFieldsIn, IsStructIn, IsModule}
-use Rattle.llvm_core.specs.Data.{TypeTree, TypeTrees, FunctionType, IntConst, PlaceholderConst, Operand, Constant, Parameter, Result, Placed, Block, Function, StructBody, ModuleData, Instruction, Phi, Applied, type_at, types_at, trees_of, fields_of, struct_of, data_of, operand_type}
+use Rattle.llvm_core.specs.Data.{TypeTree, TypeTrees, FunctionType, IntConst, FilledConst, PlaceholderConst, Operand, Constant, Parameter, Result, Placed, Block, Function, StructBody, ModuleData, Instruction, Phi, Applied, type_at, types_at, trees_of, fields_of, struct_of, data_of, operand_type}
 use Rattle.llvm_core.specs.declared.check_err.Place.TheVariants as P
 use Rattle.llvm_core.specs.declared.check_err.CheckErr.TheVariants.{TooDeep}
 use Rattle.llvm_core.specs.Checked.{IsChecked, is_deep, struct_names}
@@ -170,6 +170,7 @@ module _ (f : Function) where
 
   const_short : (o : Operand) → IsOperandOf f o → IsNarrowConst o
   const_short (Constant (IntConst w v)) h = h.0.1
+  const_short (Constant (FilledConst fill type)) h = tt
   const_short (Constant (PlaceholderConst n type)) h = tt
   const_short (Parameter g i) h = tt
   const_short (Result n) h = tt

@@ -37,9 +37,10 @@ is_first_class_kind k = is_first_class (shape_of k)
 abbrev pub is_returned_kind : LLVMTypeKind → Bool
 is_returned_kind k = is_void k || is_first_class_kind k
 
--- an integer of at most 64 bits
+-- an integer constant has at most 64 bits; of another constant it is not asked
 abbrev pub is_short_const : List LLVMTypeKind → LLVMConstKind → Bool
 is_short_const types (C.Int t value) = is_kind (λ (k : LLVMTypeKind). nat_le (width_of (shape_of k)) 64) types t
+is_short_const types (C.Filled fill t) = true
 is_short_const types (C.Placeholder number t) = true
 
 module _ (m : Module) where
@@ -49,7 +50,7 @@ module _ (m : Module) where
   abbrev pub is_first_class_value : LLVMValue → Bool
   is_first_class_value v = option_map_or is_first_class_type (value_type m v) false
 
-  -- a constant has at most 64 bits; of another operand it is not asked
+  -- an integer constant has at most 64 bits; of another operand nothing is asked
   abbrev pub is_narrow_const : LLVMValue → Bool
   is_narrow_const (V.Const c) = option_map_or (is_short_const m.types) (slice_get m.consts c.0) true
   is_narrow_const (V.Param f place) = true

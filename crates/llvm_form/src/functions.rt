@@ -53,7 +53,7 @@ fn are_first_class_entries(m: &LLVMModule, entries: &[PhiEntry]) -> bool
     true
 }
 
-/// Whether a constant has at most 64 bits.
+/// Whether a constant has at most 64 bits, where it is an integer.
 fn is_short_const(m: &LLVMModule, kind: &LLVMConstKind) -> bool
     requires { IsConstOver m.now.types kind.now }
     ensures { result ≡ is_short_const m.now.types kind.now }
@@ -63,11 +63,12 @@ fn is_short_const(m: &LLVMModule, kind: &LLVMConstKind) -> bool
             LLVMTypeKind::Int(width) => *width <= MAX_SHORT,
             _ => unreachable!(),
         },
+        LLVMConstKind::Filled(..) => true,
         LLVMConstKind::Placeholder(..) => true,
     }
 }
 
-/// Whether a value that is a constant has at most 64 bits; of another it is not asked.
+/// Whether a value that is an integer constant has at most 64 bits; of another it is not asked.
 fn is_narrow_const(m: &LLVMModule, value: LLVMValue) -> bool
     requires { IsValue m.now value }
     ensures { result ≡ is_narrow_const m.now value }

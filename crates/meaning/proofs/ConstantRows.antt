@@ -3,12 +3,12 @@
 use Rattle.std.proofs.Common.{◌≡◌, ◌∙◌, ℕ, suc, Bool, true, false, not, ◌||◌, if◌then◌else◌, List, [], ◌∷◌, Some, All, map, take, slice_get, refl, ap, ⊎_elim}
 use Rattle.std.proofs.lemmas.Bool.{false≢true, or_cases}
 use Rattle.std.proofs.lemmas.List.Elements.{All-nil, All-cons, All-head, All-tail, All-weaker}
-use Rattle.dialect_types.specs.Trees.{AttrTree}
 use Rattle.dialect_core.specs.declared.ops.Value.{Value}
 use Rattle.dialect_core.specs.declared.ops.Value.TheVariants.{Result}
-use Rattle.dialect_core.specs.Data.{Func, DialectOp, Kind, ConstantOp, RowOp}
+use Rattle.dialect_core.specs.Data.{Func, DialectOp, Kind, ConstantOp, FilledOp, RowOp}
 use Rattle.dialect_core.specs.Form.{is_constant, is_constant_kind, others_of}
-use Rattle.meaning.specs.Machine.{At, Row}
+use Rattle.meaning.specs.Terms.{Term, filled_term}
+use Rattle.meaning.specs.Machine.{At, Holds, Row}
 use Rattle.meaning.specs.Setting.{Setting}
 use Rattle.meaning.specs.Dialect as dialect
 use Rattle.meaning.specs.Dialect.{attr_term, same_value}
@@ -24,6 +24,7 @@ module _ (setting : Setting) (g : Func) where
 
   constant_kind : (o : DialectOp) (k : Kind) → sets_constant (dialect.action setting g o k) ≡ is_constant_kind k
   constant_kind o (ConstantOp value) = refl
+  constant_kind o (FilledOp fill) = refl
   constant_kind o (RowOp op) = refl
 
   paired_one : (o : DialectOp) (os : List DialectOp) (b : Bool) → paired (rows os) ≡ rows (others_of os) → (if not b then dialect.row setting g o ∷ paired (rows os) else paired (rows os)) ≡ rows (if not b then o ∷ others_of os else others_of os)
@@ -38,12 +39,13 @@ module _ (setting : Setting) (g : Func) where
   module _ (plan : Plan) where
     -- ---- rows that keep to a plan
 
-    -- the plan has the constant of that operation
+    -- the plan has the constant that the operation holds, where it holds one
     abbrev pub HasConstant : DialectOp → Kind → Type 0
-    HasConstant o k = (value : AttrTree) → k ≡ ConstantOp value → (among plan.hoisted (Result (record { 0 = o.number })) ≡ true) × (term_among plan.hoisted (Result (record { 0 = o.number })) ≡ attr_term setting value)
+    HasConstant o k = (t : Term) → dialect.action setting g o k ≡ Holds t → (among plan.hoisted (Result (record { 0 = o.number })) ≡ true) × (term_among plan.hoisted (Result (record { 0 = o.number })) ≡ t)
 
     kept_row : (o : DialectOp) (k : Kind) → HasConstant o k → KeepsPlan plan (dialect.action setting g o k) (Result (record { 0 = o.number }))
-    kept_row o (ConstantOp value) h = h value refl
+    kept_row o (ConstantOp value) h = h (attr_term setting value) refl
+    kept_row o (FilledOp fill) h = h (filled_term fill (dialect.option_type o.result)) refl
     kept_row o (RowOp op) h = tt
 
     pub kept_rows : (os : List DialectOp) → ((i : ℕ) (o : DialectOp) → slice_get os i ≡ Some o → HasConstant o o.kind) → All (λ (r : Row Value). KeepsPlan plan r.action r.result) (rows os)
@@ -62,6 +64,7 @@ module _ (setting : Setting) (g : Func) where
 
     operands_set : (done : List (Row Value)) (o : DialectOp) (k : Kind) → All (IsSet done) o.operands → AreSet plan done (operands_of (dialect.action setting g o k))
     operands_set done o (ConstantOp value) h = tt
+    operands_set done o (FilledOp fill) h = tt
     operands_set done o (RowOp op) h = are_set done o.operands h
 
     -- if it is a constant, it is set by the rows that are done or by those operations

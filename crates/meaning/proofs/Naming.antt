@@ -5,7 +5,7 @@ use Rattle.kinds.specs.declared.op.Op.{Op}
 use Rattle.kinds.specs.declared.rules.Family.{Family}
 use Rattle.kinds.specs.declared.rules.Family.TheVariants.{Shows, Builds}
 use Rattle.kinds.specs.Types.{TypeTree}
-use Rattle.meaning.specs.Terms.{Match, family, made_by, silent, Term, Param, Answer, Unset, Int, ListOf, Expr, Insert, Terms, NoTerms, ThenTerm, Path, Places, PlaceOf, terms_of, rename, rename_all, rename_path, rename_type}
+use Rattle.meaning.specs.Terms.{Match, family, made_by, silent, Term, Param, Answer, Unset, Int, Filled, ListOf, Expr, Insert, Terms, NoTerms, ThenTerm, Path, Places, PlaceOf, terms_of, rename, rename_all, rename_path, rename_type}
 use Rattle.meaning.specs.Machine.{Item, Entered, Event}
 use Rattle.meaning.specs.Code.{under}
 use Rattle.meaning.specs.Examples.{same_places}
@@ -36,6 +36,7 @@ mutual
   term_same (Answer n) = refl
   term_same Unset = refl
   term_same (Int w v) = refl
+  term_same (Filled fill ty) = ap (Filled fill) (type_stays ty)
   term_same (ListOf ty ts) = cc (type_stays ty, terms_same ts)
   term_same (Expr o ty ts) = cc (type_stays ty, terms_same ts)
   term_same (Insert ty a p e) = cc (type_stays ty, term_same a, path_same p, term_same e)

@@ -8,7 +8,7 @@ use Rattle.dialect_core.specs.declared.numbers.OpRef.{OpRef}
 use Rattle.dialect_core.specs.declared.ops.Value.{Value}
 use Rattle.dialect_core.specs.declared.ops.Successor.{Successor}
 use Rattle.dialect_core.specs.ContextData.{ContextData}
-use Rattle.dialect_core.specs.Data.{Kind, ConstantOp, RowOp, DialectBlock, DialectOp, Func, func_in, type_in, value_type}
+use Rattle.dialect_core.specs.Data.{Kind, ConstantOp, FilledOp, RowOp, DialectBlock, DialectOp, Func, func_in, type_in, value_type}
 use Rattle.dialect_core.specs.Form.{HasOwnValues, IsValueOf, uses_of}
 use Rattle.dialect_core.proofs.HoldLemmas.{stands_left}
 use Rattle.dialect_core.proofs.LineLemmas.{all_at}
@@ -32,6 +32,7 @@ module _ (setting : Setting) (c : ContextData) (f : OpRef) (g : Func) (is : func
 
   action_same : (o : DialectOp) (k : Kind) → Own o.operands → typed_action setting (type_in c) o k ≡ typed_action setting (value_type g) o k
   action_same o (ConstantOp value) own = refl
+  action_same o (FilledOp fill) own = refl
   action_same o (RowOp op) own = ap (λ (ts : List TypeTree). let a : Action Value = Applies op (option_type o.result) ts (map At o.operands) in a) (types_same o.operands own)
 
   rows_same : (os : List DialectOp) → ((k : ℕ) (o : DialectOp) → slice_get os k ≡ Some o → Own o.operands) → map (typed_row setting (type_in c)) os ≡ map (typed_row setting (value_type g)) os

@@ -8,15 +8,15 @@ use Rattle.std.proofs.lemmas.List.{length-map}
 use Rattle.kinds.specs.Types.{TypeTree}
 use Rattle.kinds.specs.Structs.{renamed}
 use Rattle.llvm_core.specs.Data as L
-use Rattle.llvm_core.specs.Data.{IntConst, PlaceholderConst, Instruction, Phi, Applied, Constant, Parameter, Result, Placed, ModuleData, operand_type, targets}
-use Rattle.meaning.specs.Terms.{Term, Param, Answer, Unset, Int, ListOf, Expr, Insert, Terms, NoTerms, ThenTerm, Path, Places, PlaceOf, Match, rename, rename_all, rename_path}
-use Rattle.meaning.specs.Machine.{Operand, Applies, Row, Edge, Block, Item, Entered, Event, trace}
+use Rattle.llvm_core.specs.Data.{IntConst, FilledConst, PlaceholderConst, Instruction, Phi, Applied, Constant, Parameter, Result, Placed, ModuleData, operand_type, targets}
+use Rattle.meaning.specs.Terms.{Term, Param, Answer, Unset, Int, Filled, ListOf, Expr, Insert, Terms, NoTerms, ThenTerm, Path, Places, PlaceOf, Match, rename, rename_all, rename_path}
+use Rattle.meaning.specs.Machine.{Operand, Fixed, Applies, Row, Edge, Block, Item, Entered, Event, trace}
 use Rattle.meaning.specs.Setting.{Setting}
 use Rattle.meaning.specs.Code.{Code, Entry, Body, entry_of, IsOneToOne, SameBody, SameBodies, SameEntry, SameEntries, SameCode, IsDistinctNames, under as shown_under}
 use Rattle.meaning.specs.Llvm as Llvm
 use Rattle.meaning.specs.Llvm.{Key, ParamKey, ResultKey, same_key}
 use Rattle.meaning.specs.Renamed.{renamed_operand, renamed_phi_entry, renamed_instruction, renamed_placed, renamed_block, renamed_function, renamed_module}
-use Rattle.meaning.proofs.RenamedLaws.{map_twice, find_map, filter_map_map, flat_map_agree, renamed_operand_types, renamed_targets, arity_under, place_under, has_blocks_under, renamed_type, renamed_types, renamed_symbol}
+use Rattle.meaning.proofs.RenamedLaws.{map_twice, find_map, filter_map_map, flat_map_agree, renamed_operand_types, renamed_targets, arity_under, place_under, has_blocks_under, filled_under, renamed_type, renamed_types, renamed_symbol}
 use Rattle.meaning.proofs.RenamedRuns.{item_as, operand_as, row_as, move_as, edge_as, block_as, trace_as}
 
 -- ---- the body of a function under other names
@@ -41,6 +41,7 @@ module _ (to : List ℕ → List ℕ) where
 
   operand_under : (a : Setting) (o : L.Operand) → Llvm.operand a (renamed_operand to o) ≡ operand_as Key names_match (Llvm.operand a o)
   operand_under a (Constant (IntConst w n)) = refl
+  operand_under a (Constant (FilledConst fill t)) = ap Fixed (sym (filled_under names_match fill t))
   operand_under a (Constant (PlaceholderConst n t)) = refl
   operand_under a (Parameter g i) = refl
   operand_under a (Result n) = refl
@@ -132,6 +133,7 @@ module _ (to : List ℕ → List ℕ) (plain under : Match) (stays : (n : List �
     term_under (Answer n) = refl
     term_under Unset = refl
     term_under (Int w v) = refl
+    term_under (Filled fill ty) = ap (Filled fill) (renamed_type to plain under stays named ty)
     term_under (ListOf ty ts) = cc (renamed_type to plain under stays named ty, terms_under ts)
     term_under (Expr o ty ts) = cc (renamed_type to plain under stays named ty, terms_under ts)
     term_under (Insert ty a p e) = cc (renamed_type to plain under stays named ty, term_under a, path_under p, term_under e)

@@ -5,14 +5,19 @@ use mathlib.Core.Path.{fun_ext}
 use Rattle.std.specs.List.{filter_map, flat_map, find, position_from, cons_option}
 use Rattle.std.specs.Option.{option_map, option_map_or}
 use Rattle.std.proofs.lemmas.List.{length-map, map-append}
-use Rattle.kinds.specs.Types.{TypeTree, VoidType, TypeTrees, NoTypes, ThenType, takes_of, count_types}
+use Rattle.kinds.specs.declared.fill.Fill.{Fill}
+use Rattle.kinds.specs.declared.fitting.Shape.{Shape}
+use Rattle.kinds.specs.Fill.{is_own_fill}
+use Rattle.kinds.specs.Fitting.{width_of}
+use Rattle.kinds.specs.Held.{width_in}
+use Rattle.kinds.specs.Types.{TypeTree, VoidType, TypeTrees, NoTypes, ThenType, shape, takes_of, count_types}
 use Rattle.kinds.specs.Structs.{renamed, renamed_all}
-use Rattle.kinds.proofs.RenamedLaws.{renamed_self, renamed_takes, renamed_count}
+use Rattle.kinds.proofs.RenamedLaws.{renamed_self, renamed_shape, renamed_takes, renamed_count}
 use Rattle.llvm_core.specs.Data as L
-use Rattle.llvm_core.specs.Data.{ConstTree, IntConst, PlaceholderConst, RowData, Instruction, Phi, Applied, Constant, Parameter, Result, Placed, nth_type, param_type, operand_type, placed_in, targets}
+use Rattle.llvm_core.specs.Data.{ConstTree, IntConst, FilledConst, PlaceholderConst, RowData, Instruction, Phi, Applied, Constant, Parameter, Result, Placed, nth_type, param_type, operand_type, placed_in, targets}
 use Rattle.dialect_core.specs.Data as D
 use Rattle.dialect_core.specs.declared.ops.Value.{Value}
-use Rattle.meaning.specs.Terms.{Param, Unset, Match, rename, rename_type}
+use Rattle.meaning.specs.Terms.{Param, Unset, Int, Filled, Match, filled_term, rename, rename_type}
 use Rattle.meaning.specs.Machine.{Operand, At, Fixed, Action, Holds, Applies, Row, Edge, Block}
 use Rattle.meaning.specs.Setting.{Setting}
 use Rattle.meaning.specs.Code.{rename_symbol}
@@ -135,6 +140,7 @@ module _ (to : List ℕ → List ℕ) where
 
   pub renamed_operand_type : (f : L.Function) (o : L.Operand) → operand_type (renamed_function to f) (renamed_operand to o) ≡ renamed to (operand_type f o)
   renamed_operand_type f (Constant (IntConst w v)) = refl
+  renamed_operand_type f (Constant (FilledConst fill t)) = refl
   renamed_operand_type f (Constant (PlaceholderConst n t)) = refl
   renamed_operand_type f (Parameter g i) = param_if (nat_eq g f.number) f.type i
   renamed_operand_type f (Result n) = result_under f n
@@ -158,6 +164,18 @@ module _ (to : List ℕ → List ℕ) where
   pub has_blocks_under : (f : L.Function) → Llvm.has_blocks (renamed_function to f) ≡ Llvm.has_blocks f
   has_blocks_under f = ap (nat_lt 0) (length-map f.blocks (renamed_block to))
 
+-- ---- terms
+
+-- the term of zero, undef or poison, whose type names structs otherwise
+pub filled_under : (match : Match) (fill : Fill) (t : TypeTree) → rename match (filled_term fill t) ≡ filled_term fill (rename_type match t)
+filled_under match fill t =
+    by (is_own_fill fill (shape t))
+    ∙ ap (λ (s : Shape). if is_own_fill fill s then Filled fill (rename_type match t) else Int (width_of s) 0) (sym (renamed_shape match.struct t))
+  where
+    by : (b : Bool) → rename match (if b then Filled fill t else Int (width_in t) 0) ≡ (if b then Filled fill (rename_type match t) else Int (width_in t) 0)
+    by true = refl
+    by false = refl
+
 -- ---- the shape
 
 -- a match that renames no struct, and one that says the other names, over the same places of blocks
@@ -173,10 +191,15 @@ module _ (to : List ℕ → List ℕ) (plain under : Match) (stays : (n : List �
   renamed_symbol a f = let t = renamed_type f.type in let b = has_blocks_under to f in cc
 
   module _ (plan : Plan) where
-    -- what stands for an operand of the function under other names stands for it: a constant is an integer, or unset
+    filled_same : (fill : Fill) (t : TypeTree) → rename plain (filled_term fill (renamed to t)) ≡ rename under (filled_term fill t)
+    filled_same fill t = filled_under plain fill (renamed to t) ∙ ap (filled_term fill) (renamed_type t) ∙ sym (filled_under under fill t)
+
+    -- what stands for an operand of the function under other names stands for it
     stands : (a : Setting) (o : L.Operand) (v : Operand Value) → StandsFor plain plan (Llvm.operand a (renamed_operand to o)) v → StandsFor under plan (Llvm.operand a o) v
     stands a (Constant (IntConst w n)) (At v) h = h
     stands a (Constant (IntConst w n)) (Fixed u) h = h
+    stands a (Constant (FilledConst fill t)) (At v) h = (h.0, sym (filled_same fill t) ∙ h.1)
+    stands a (Constant (FilledConst fill t)) (Fixed u) h = sym (filled_same fill t) ∙ h
     stands a (Constant (PlaceholderConst n t)) (At v) h = h
     stands a (Constant (PlaceholderConst n t)) (Fixed u) h = h
     stands a (Parameter g i) (At v) h = h

@@ -11,12 +11,12 @@ use Rattle.dialect_core.specs.declared.linkage.LinkageAttr.{LinkageAttr}
 use Rattle.dialect_core.specs.declared.linkage.LinkageAttr.TheVariants as K
 use Rattle.dialect_core.specs.declared.predicates.ICmpPredicateAttr.{ICmpPredicateAttr}
 use Rattle.dialect_core.specs.declared.predicates.ICmpPredicateAttr.TheVariants as P
-use Rattle.dialect_core.specs.Data.{DialectModule, Func, DialectBlock, DialectOp, Kind, ConstantOp, RowOp, llvm_name_of, value_type}
+use Rattle.dialect_core.specs.Data.{DialectModule, Func, DialectBlock, DialectOp, Kind, ConstantOp, FilledOp, RowOp, llvm_name_of, value_type}
 use Rattle.dialect_core.specs.WellFormed.{Typing}
 use Rattle.kinds.specs.declared.op.LLVMIntPredicate.{LLVMIntPredicate}
 use Rattle.kinds.specs.declared.op.LLVMIntPredicate.TheVariants as I
 use Rattle.kinds.specs.Held.{width_in}
-use Rattle.meaning.specs.Terms.{Term, Param, Unset, Int}
+use Rattle.meaning.specs.Terms.{Term, Param, Unset, Int, filled_term}
 use Rattle.meaning.specs.Machine.{Operand, At, Action, Holds, Applies, Row, Edge, Block, Item, trace}
 use Rattle.meaning.specs.Setting.{Setting, TellsNothing}
 use Rattle.meaning.specs.Code.{Code, Entry, Body, Symbol, FunctionSymbol, Linkage, External, AvailableExternally, LinkOnceAny, LinkOnceODR, WeakAny, WeakODR, Appending, Internal, Private, ExternalWeak, Common, Other}
@@ -56,9 +56,11 @@ shown o = o.operands
 -- function it belongs to (`type_in`), or of a function, which gives its own values their types, and any other none
 -- (`value_type`).
 module _ (setting : Setting) (types : Typing) where
-  -- a constant operation holds the term of its constant; any other applies its row to its operands
+  -- a constant operation holds the term of its constant, of the type of its result where it is zero, undef or poison; any
+  -- other applies its row to its operands
   abbrev pub typed_action : DialectOp → Kind → Action Value
   typed_action o (ConstantOp value) = Holds (attr_term setting value)
+  typed_action o (FilledOp fill) = Holds (filled_term fill (option_type o.result))
   typed_action o (RowOp op) = Applies op (option_type o.result) (map (λ (v : Value). option_type (types v)) (shown o)) (map At (shown o))
 
   abbrev pub typed_row : DialectOp → Row Value

@@ -3,12 +3,13 @@ use Rattle.std.specs.Prelude.{ℕ, List, map}
 use Rattle.std.specs.Option.{option_map}
 use Rattle.kinds.specs.Structs.{renamed, renamed_struct}
 use Rattle.llvm_core.specs.Data as L
-use Rattle.llvm_core.specs.Data.{ConstTree, IntConst, PlaceholderConst, RowData, Instruction, Phi, Applied, Placed, ModuleData}
+use Rattle.llvm_core.specs.Data.{ConstTree, IntConst, FilledConst, PlaceholderConst, RowData, Instruction, Phi, Applied, Placed, ModuleData}
 
 module _ (to : List ℕ → List ℕ) where
   -- a line for each kind of constant
   abbrev pub renamed_const : ConstTree → ConstTree
   renamed_const (IntConst w v) = IntConst w v
+  renamed_const (FilledConst fill type) = FilledConst fill (renamed to type)
   renamed_const (PlaceholderConst n type) = PlaceholderConst n (renamed to type)
 
   abbrev pub renamed_operand : L.Operand → L.Operand

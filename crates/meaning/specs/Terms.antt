@@ -1,11 +1,14 @@
 -- Terms: what the operands of a run stand for, and what each silent row makes of its operands.
 -- Types are the trees of module data, for both sides.
-use Rattle.std.specs.Prelude.{ℕ, zero, suc, Bool, true, false, List, [], ◌∷◌, Option, Some, None, map}
+use Rattle.std.specs.Prelude.{ℕ, zero, suc, Bool, true, false, List, [], ◌∷◌, Option, Some, None, map, if◌then◌else◌}
+use Rattle.kinds.specs.declared.fill.Fill.{Fill}
 use Rattle.kinds.specs.declared.op.Op.{Op}
 use Rattle.kinds.specs.declared.rules.Family.{Family}
 use Rattle.kinds.specs.declared.rules.Family.TheVariants.{Shows, Builds}
 use Rattle.kinds.specs.Table.{rule_of}
-use Rattle.kinds.specs.Types.{TypeTree, TypeTrees}
+use Rattle.kinds.specs.Types.{TypeTree, TypeTrees, shape}
+use Rattle.kinds.specs.Fill.{is_own_fill}
+use Rattle.kinds.specs.Held.{width_in}
 use Rattle.kinds.specs.Structs.{renamed, renamed_all}
 
 -- ---- terms
@@ -19,6 +22,8 @@ mutual
     -- what no definition has set
     Unset : Term
     Int : (width value : ℕ) → Term
+    -- zero, undef or poison of a type
+    Filled : (fill : Fill) (type : TypeTree) → Term
     -- an aggregate by its elements
     ListOf : (type : TypeTree) (elements : Terms) → Term
     -- an expression of a silent row
@@ -38,6 +43,10 @@ mutual
 abbrev pub terms_of : List Term → Terms
 terms_of [] = NoTerms
 terms_of (t ∷ ts) = ThenTerm t (terms_of ts)
+
+-- the term of zero, undef or poison of a type: the zero of an integer type is the integer 0
+abbrev pub filled_term : Fill → TypeTree → Term
+filled_term fill type = if is_own_fill fill (shape type) then Filled fill type else Int (width_in type) 0
 
 abbrev pub is_unset : Term → Bool
 is_unset Unset = true
@@ -112,6 +121,7 @@ abbrev mutual
   rename match (Answer n) = Answer n
   rename match Unset = Unset
   rename match (Int w v) = Int w v
+  rename match (Filled fill ty) = Filled fill (rename_type match ty)
   rename match (ListOf ty ts) = ListOf (rename_type match ty) (rename_all match ts)
   rename match (Expr o ty ts) = Expr o (rename_type match ty) (rename_all match ts)
   rename match (Insert ty a p e) = Insert (rename_type match ty) (rename match a) (rename_path match p) (rename match e)

@@ -1,7 +1,7 @@
 -- The data of a module with its structs under other names are its data under these names.
 use Rattle.std.proofs.Common.{◌≡◌, ℕ, List, [], ◌∷◌, ◌++◌, Option, Some, None, map, slice_get, refl, sym, ap, ◌∙◌}
 use Rattle.std.specs.Option.{option_map}
-use Rattle.std.specs.List.{filter_map, cons_option, enumerate_from}
+use Rattle.std.specs.List.{filter_map, flat_map, cons_option, enumerate_from}
 use Rattle.std.proofs.lemmas.List.{map-append}
 use Rattle.std.proofs.Math.ListN.{get_or-map}
 use Rattle.kinds.specs.Types.{TypeTree, VoidType, ArrayType, VectorType, StructType, TypeTrees}
@@ -37,6 +37,10 @@ use Rattle.renamed_source.specs.Names.{renamed_kind, renamed_struct_data, rename
 pub map_both : {X Y Z W : Type 0} (f : Y → Z) (g : X → Y) (h : W → Z) (k : X → W) → ((x : X) → f (g x) ≡ h (k x)) → (xs : List X) → map f (map g xs) ≡ map h (map k xs)
 map_both f g h k same [] = refl
 map_both f g h k same (x ∷ xs) = let a = same x in let b = map_both f g h k same xs in cc
+
+pub joined_mapped : {X Y Z W : Type 0} (f : Y → List W) (g : X → Y) (h : Z → W) (k : X → List Z) → ((x : X) → f (g x) ≡ map h (k x)) → (xs : List X) → flat_map f (map g xs) ≡ map h (flat_map k xs)
+joined_mapped f g h k same [] = refl
+joined_mapped f g h k same (x ∷ xs) = rw (same x, joined_mapped f g h k same xs) (sym (map-append h (k x) (flat_map k xs)))
 
 map_from : {X Y Z : Type 0} (f : X → Z) (h : Y → Z) (k : X → Y) → ((x : X) → f x ≡ h (k x)) → (xs : List X) → map f xs ≡ map h (map k xs)
 map_from f h k same [] = refl
@@ -91,6 +95,7 @@ module _ (to : List ℕ → List ℕ) where
 
   const_kind_tree : (ts : List TypeTree) (cs : List ConstTree) (k : LLVMConstKind) → const_tree (map (renamed to) ts) (map (renamed_const to) cs) k ≡ renamed_const to (const_tree ts cs k)
   const_kind_tree ts cs (C.Int t v) = ap (λ (w : ℕ). IntConst w v) (ap width_in (same_type ts t) ∙ renamed_width to (type_at ts t))
+  const_kind_tree ts cs (C.Filled fill t) = ap (L.FilledConst fill) (same_type ts t)
   const_kind_tree ts cs (C.Placeholder number t) = ap (L.PlaceholderConst number) (same_type ts t)
 
   consts_after : (ts : List TypeTree) (done : List ConstTree) (ks : List LLVMConstKind) → trees_after (const_tree (map (renamed to) ts)) (map (renamed_const to) done) ks ≡ map (renamed_const to) (trees_after (const_tree ts) done ks)

@@ -1,5 +1,5 @@
 -- A function under other names of structs: it is of the form, and translated, where the function itself is.
-use Rattle.std.proofs.Common.{arith, ◌≡◌, ◌-◌, ℕ, zero, suc, Bool, true, false, ◌||◌, refl, ap, sym, subst, ◌∙◌, List, [], ◌∷◌, map, filter, length, slice_get, take, Option, Some, None, if◌then◌else◌, nat_eq, All}
+use Rattle.std.proofs.Common.{arith, ◌≡◌, ◌-◌, ℕ, zero, suc, Bool, true, false, ◌||◌, refl, ap, sym, subst, ◌∙◌, List, [], ◌∷◌, ◌++◌, map, filter, length, slice_get, take, Option, Some, None, if◌then◌else◌, nat_eq, All}
 use Rattle.std.specs.Prelude.{unwrap_or}
 use mathlib.Core.Path.{fun_ext}
 use Rattle.std.specs.List.{flat_map, list_any}
@@ -9,6 +9,7 @@ use Rattle.std.proofs.lemmas.Option.{slice_get-map}
 use Rattle.std.proofs.lemmas.List.Elements.{All-map, All-weaker}
 use Rattle.kinds.specs.declared.rules.Takes.{Takes}
 use Rattle.kinds.specs.declared.rules.Takes.TheVariants as O
+use Rattle.kinds.specs.Fill.{is_own_fill}
 use Rattle.kinds.specs.Rules.{operand_count}
 use Rattle.kinds.specs.Table.{rule_of}
 use Rattle.kinds.specs.Types.{TypeTree, VoidType, types_list, result_of, params_of}
@@ -16,14 +17,15 @@ use Rattle.kinds.specs.Held.{is_void, IsFirstClass, IsHeldResult}
 use Rattle.kinds.specs.Typing.{fits_trees, typed}
 use Rattle.kinds.specs.Structs.{renamed, renamed_all}
 use Rattle.kinds.proofs.HeldLaws.{void_is, void_if}
-use Rattle.kinds.proofs.RenamedLaws.{renamed_list, renamed_count, renamed_result, renamed_params, renamed_void, renamed_shallow, renamed_first_class, renamed_returned, renamed_held_result}
+use Rattle.kinds.proofs.RenamedLaws.{renamed_shape, renamed_list, renamed_count, renamed_result, renamed_params, renamed_void, renamed_shallow, renamed_first_class, renamed_returned, renamed_held_result}
 use Rattle.support.specs.Interned.{IsDistinctList}
-use Rattle.llvm_core.specs.Data.{IntConst, PlaceholderConst, Operand, Constant, Parameter, Result, RowData, Instruction, Phi, Applied, Placed, Block, Function, operand_type, placed_in, targets}
+use Rattle.llvm_core.specs.Data.{IntConst, FilledConst, PlaceholderConst, Operand, Constant, Parameter, Result, RowData, Instruction, Phi, Applied, Placed, Block, Function, operand_type, placed_in, targets}
 use Rattle.llvm_core.specs.Edges.{count_of}
 use Rattle.llvm_core.specs.Checked.{ends_in_only}
-use Rattle.llvm_core.specs.Form.{IsOperandOf, IsOperand, targets_of, edges_between, IsTarget, FitsEdges, IsReturning, returns_void, types_of, IsFormRow, IsFormInstruction, IsFormPlaced, is_last, is_phi, HasPhisFirst, IsFormBlock, IsFormFunction, value_types, IsHeldFunction}
+use Rattle.llvm_core.specs.Form.{operands_of, constant_type, constant_types, IsOperandOf, IsOperand, targets_of, edges_between, IsTarget, FitsEdges, IsReturning, returns_void, types_of, IsFormRow, IsFormInstruction, IsFormPlaced, is_last, is_phi, HasPhisFirst, IsFormBlock, IsFormFunction, value_types, IsHeldFunction}
 use Rattle.meaning.specs.Renamed.{renamed_operand, renamed_phi_entry, renamed_row, renamed_instruction, renamed_placed, renamed_block, renamed_function}
 use Rattle.meaning.proofs.RenamedLaws.{map_twice, flat_map_agree, renamed_placed_in, renamed_operand_type, renamed_operand_types, renamed_targets}
+use Rattle.renamed_source.proofs.DataLaws.{map_both, joined_mapped}
 use Rattle.renamed_source.proofs.FittingLaws.{fits_renamed, typed_renamed, unwrapped}
 
 -- ---- lists of changed items
@@ -64,16 +66,40 @@ ends_mapped p g xs =
 -- ---- types of values
 
 module _ (to : List ℕ → List ℕ) where
-  result_types : (ps : List Placed) → map (λ (p : Placed). p.type) (map (renamed_placed to) ps) ≡ map (renamed to) (map (λ (p : Placed). p.type) ps)
-  result_types [] = refl
-  result_types (p ∷ ps) = ap (λ (ts : List TypeTree). renamed to p.type ∷ ts) (result_types ps)
+  pub result_types : (ps : List Placed) → map (λ (p : Placed). p.type) (map (renamed_placed to) ps) ≡ map (renamed to) (map (λ (p : Placed). p.type) ps)
+  result_types ps = map_both (λ (p : Placed). p.type) (renamed_placed to) (renamed to) (λ (p : Placed). p.type) (λ p. refl) ps
+
+  -- ---- constants that instructions use
+
+  constant_type_under : (o : Operand) → constant_type (renamed_operand to o) ≡ map (renamed to) (constant_type o)
+  constant_type_under (Constant (IntConst w v)) = refl
+  constant_type_under (Constant (FilledConst fill t)) = refl
+  constant_type_under (Constant (PlaceholderConst n t)) = refl
+  constant_type_under (Parameter g i) = refl
+  constant_type_under (Result n) = refl
+
+  operands_under : (i : Instruction) → operands_of (renamed_instruction to i) ≡ map (renamed_operand to) (operands_of i)
+  operands_under (Phi es) = map_both (λ (e : Operand × ℕ). e.0) (renamed_phi_entry to) (renamed_operand to) (λ (e : Operand × ℕ). e.0) (λ e. refl) es
+  operands_under (Applied r) = refl
+
+  constant_types_under : (p : Placed) → constant_types (renamed_placed to p) ≡ map (renamed to) (constant_types p)
+  constant_types_under p = ap (flat_map constant_type) (operands_under p.instruction) ∙ joined_mapped constant_type (renamed_operand to) (renamed to) constant_type constant_type_under (operands_of p.instruction)
+
+  pub constants_under : (ps : List Placed) → flat_map constant_types (map (renamed_placed to) ps) ≡ map (renamed to) (flat_map constant_types ps)
+  constants_under ps = joined_mapped constant_types (renamed_placed to) (renamed to) constant_types constant_types_under ps
+
+  -- ---- all of them
 
   pub renamed_value_types : (f : Function) → value_types (renamed_function to f) ≡ map (renamed to) (value_types f)
   renamed_value_types f =
-      let front = renamed_params to f.type in
-      let rest = ap (map (λ (p : Placed). p.type)) (renamed_placed_in to f) ∙ result_types (placed_in f) in
-      let joined = map-append (renamed to) (params_of f.type) (map (λ (p : Placed). p.type) (placed_in f)) in
+      let results = map (λ (p : Placed). p.type) (placed_in f) in
+      let constants = flat_map constant_types (placed_in f) in
       let first = renamed_result to f.type in
+      let front = renamed_params to f.type in
+      let second = ap (map (λ (p : Placed). p.type)) (renamed_placed_in to f) ∙ result_types (placed_in f) in
+      let third = ap (flat_map constant_types) (renamed_placed_in to f) ∙ constants_under (placed_in f) in
+      let joined = map-append (renamed to) (params_of f.type) results in
+      let whole = map-append (renamed to) (result_of f.type ∷ params_of f.type ++ results) constants in
       cc
 
   pub renamed_held : (f : Function) → IsHeldFunction f → IsHeldFunction (renamed_function to f)
@@ -83,6 +109,7 @@ module _ (to : List ℕ → List ℕ) where
 
   operand_of : (f : Function) (o : Operand) → IsOperandOf f o → IsOperandOf (renamed_function to f) (renamed_operand to o)
   operand_of f (Constant (IntConst w v)) h = h
+  operand_of f (Constant (FilledConst fill t)) h = ap (is_own_fill fill) (renamed_shape to t) ∙ h
   operand_of f (Constant (PlaceholderConst n t)) h = absurd h
   operand_of f (Parameter g i) h = h
   operand_of f (Result n) h =

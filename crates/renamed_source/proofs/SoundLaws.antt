@@ -7,6 +7,7 @@ use Rattle.std.proofs.lemmas.List.{length-map}
 use Rattle.std.proofs.lemmas.List.Elements.{All-map, All-weaker}
 use Rattle.kinds.specs.declared.fitting.Shape.{Shape}
 use Rattle.kinds.specs.declared.fitting.TypeView.{TypeView}
+use Rattle.kinds.specs.Fill.{is_own_fill}
 use Rattle.kinds.specs.Fitting as F
 use Rattle.kinds.specs.Fitting.{fits, view_shape, view_same}
 use Rattle.kinds.specs.Table.{rule_of}
@@ -80,6 +81,7 @@ module _ (to : List ℕ → List ℕ) (m : Module) where
 
   const_there : (k : LLVMConstKind) → IsConstOver m.types k → IsConstOver other.types k
   const_there (C.Int t value) h = (h.0, mapped_at (renamed_kind to) m.types t.0 (T.Int h.0) h.1, h.2)
+  const_there (C.Filled fill t) h = (same_count t.0 h.0, ap (λ (s : LLVMType → Shape). is_own_fill fill (s t)) (renamed_shapes to m.types) ∙ h.1)
   const_there (C.Placeholder number t) h = same_count t.0 h
 
   fields_there : (b : StructFields) → AreFieldsIn m.types b → AreFieldsIn other.types b

@@ -1,27 +1,24 @@
 -- A module under other names of structs: which struct a name means there, that the module is of the form, and that its types hold
 -- no more of what the dialect lacks.
-use Rattle.std.proofs.Common.{arith, ◌≡◌, ℕ, Bool, true, not, refl, ap, sym, subst, ◌∙◌, List, [], ◌∷◌, ◌++◌, map, slice_get, Option, Some, None, bytes_eq, All}
+use Rattle.std.proofs.Common.{◌≡◌, ℕ, Bool, true, refl, ap, sym, subst, ◌∙◌, List, [], ◌∷◌, ◌++◌, map, slice_get, Option, Some, None, bytes_eq, All}
 use mathlib.Core.Path.{fun_ext}
 use Rattle.std.specs.List.{find, flat_map}
 use Rattle.std.specs.Option.{option_map, option_map_or}
-use Rattle.std.specs.Str.{is_utf8}
-use Rattle.std.proofs.lemmas.Str.{IsUtf8-from_is_utf8, is_utf8-from_IsUtf8, IsUtf8-from_ascii, IsUtf8-append}
-use Rattle.std.proofs.lemmas.Str.Ascii.{IsAscii-cons, IsAscii-nil}
 use Rattle.std.proofs.lemmas.List.{map-append}
 use Rattle.kinds.specs.declared.types.OtherType.{OtherType}
 use Rattle.kinds.specs.Types.{TypeTree, VoidType, IntType, PointerType, FloatingType, RefusedType, ArrayType, VectorType, StructType, NamedType, FunctionType, types_list, parts_of}
 use Rattle.kinds.specs.Fitting.{is_first_class}
 use Rattle.kinds.specs.Held.{deepest, each_throughout}
-use Rattle.kinds.specs.Names.{is_bad_name, is_good_name}
-use Rattle.kinds.proofs.TypeLaws.{and_left, and_right}
+use Rattle.kinds.specs.Names.{is_good_name}
 use Rattle.kinds.specs.Structs.{StructBody, Struct, struct_in, IsNested, renamed, renamed_body, renamed_struct, Holds, Itself, InPart, InField, IsFormStruct}
 use Rattle.kinds.proofs.RenamedLaws.{IsMatched, renamed_list, renamed_each, renamed_nests}
 use Rattle.llvm_core.specs.Data.{Placed, Function, ModuleData, placed_in}
-use Rattle.llvm_core.specs.Form.{IsFormFunction, IsForm, types_in, value_types}
+use Rattle.llvm_core.specs.Form.{constant_types, IsFormFunction, IsForm, types_in, value_types}
 use Rattle.meaning.specs.Renamed.{renamed_placed, renamed_function, renamed_module}
-use Rattle.meaning.proofs.RenamedLaws.{map_twice, find_map, renamed_placed_in}
+use Rattle.meaning.proofs.RenamedLaws.{find_map, renamed_placed_in}
+use Rattle.renamed_source.proofs.DataLaws.{map_both, joined_mapped}
 use Rattle.renamed_source.proofs.FittingLaws.{names_apart}
-use Rattle.renamed_source.proofs.FormLaws.{mapped_all, get_from, renamed_value_types, renamed_form}
+use Rattle.renamed_source.proofs.FormLaws.{mapped_all, get_from, result_types, constants_under, renamed_value_types, renamed_form}
 
 some_from : {X Y : Type 0} (g : X → Y) (o : Option X) (y : Y) → option_map g o ≡ Some y → (x : X) × (o ≡ Some x) × (g x ≡ y)
 some_from g None y e = cc
@@ -31,27 +28,22 @@ some_from g (Some x) y e = (x, refl, cc)
 
 module _ (to : List ℕ → List ℕ) where
   placed_under : (fs : List Function) → flat_map placed_in (map (renamed_function to) fs) ≡ map (renamed_placed to) (flat_map placed_in fs)
-  placed_under [] = refl
-  placed_under (f ∷ fs) = rw (renamed_placed_in to f, placed_under fs) (sym (map-append (renamed_placed to) (placed_in f) (flat_map placed_in fs)))
+  placed_under fs = joined_mapped placed_in (renamed_function to) (renamed_placed to) placed_in (renamed_placed_in to) fs
 
   types_under : (d : ModuleData) → types_in (renamed_module to d) ≡ map (renamed to) (types_in d)
   types_under d =
       let structs = map (λ (s : Struct). NamedType s.name) d.structs in
       let functions = map (λ (f : Function). f.type) d.functions in
       let results = map (λ (p : Placed). p.type) (flat_map placed_in d.functions) in
-      let first : map (λ (s : Struct). NamedType s.name) (map (renamed_struct to) d.structs) ≡ map (renamed to) structs =
-      map_twice (λ (s : Struct). NamedType s.name) (renamed_struct to) d.structs ∙ sym (map_twice (renamed to) (λ (s : Struct). NamedType s.name) d.structs) in
-      let second : map (λ (f : Function). f.type) (map (renamed_function to) d.functions) ≡ map (renamed to) functions =
-      map_twice (λ (f : Function). f.type) (renamed_function to) d.functions ∙ sym (map_twice (renamed to) (λ (f : Function). f.type) d.functions) in
-      let third : map (λ (p : Placed). p.type) (flat_map placed_in (map (renamed_function to) d.functions)) ≡ map (renamed to) results =
-      ap (map (λ (p : Placed). p.type)) (placed_under d.functions)
-      ∙ map_twice (λ (p : Placed). p.type) (renamed_placed to) (flat_map placed_in d.functions)
-      ∙ sym (map_twice (renamed to) (λ (p : Placed). p.type) (flat_map placed_in d.functions)) in
-      ap (λ (ts : List TypeTree). ts ++ map (λ (f : Function). f.type) (map (renamed_function to) d.functions) ++ map (λ (p : Placed). p.type) (flat_map placed_in (map (renamed_function to) d.functions))) first
-      ∙ ap (λ (ts : List TypeTree). map (renamed to) structs ++ ts ++ map (λ (p : Placed). p.type) (flat_map placed_in (map (renamed_function to) d.functions))) second
-      ∙ ap (λ (ts : List TypeTree). map (renamed to) structs ++ map (renamed to) functions ++ ts) third
-      ∙ ap (λ (ts : List TypeTree). ts ++ map (renamed to) results) (sym (map-append (renamed to) structs functions))
-      ∙ sym (map-append (renamed to) (structs ++ functions) results)
+      let constants = flat_map constant_types (flat_map placed_in d.functions) in
+      let first = map_both (λ (s : Struct). NamedType s.name) (renamed_struct to) (renamed to) (λ (s : Struct). NamedType s.name) (λ s. refl) d.structs in
+      let second = map_both (λ (f : Function). f.type) (renamed_function to) (renamed to) (λ (f : Function). f.type) (λ f. refl) d.functions in
+      let third = ap (map (λ (p : Placed). p.type)) (placed_under d.functions) ∙ result_types to (flat_map placed_in d.functions) in
+      let fourth = ap (flat_map constant_types) (placed_under d.functions) ∙ constants_under to (flat_map placed_in d.functions) in
+      let two = map-append (renamed to) structs functions in
+      let three = map-append (renamed to) (structs ++ functions) results in
+      let whole = map-append (renamed to) (structs ++ functions ++ results) constants in
+      cc
 
   parts_under : (t : TypeTree) → parts_of (renamed to t) ≡ map (renamed to) (parts_of t)
   parts_under VoidType = refl

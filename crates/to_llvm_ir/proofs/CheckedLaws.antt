@@ -2,6 +2,7 @@
 use Rattle.std.proofs.Common.{ℕ, suc, ◌≡◌, ◌^◌, ◌<◌, List, [], ◌∷◌, ◌++◌, Some, All, length, map, slice_get, refl, sym, subst}
 use Rattle.std.specs.List.{flat_map}
 use Rattle.std.proofs.lemmas.List.{map-append}
+use Rattle.std.proofs.lemmas.List.Concat.{flat_map-append}
 use Rattle.std.proofs.lemmas.List.Elements.{All-nil, All-cons, All-head, All-tail, All-append}
 use Rattle.kinds.specs.declared.types.OtherType.{OtherType}
 use Rattle.kinds.specs.Types.{TypeTree, VoidType, RefusedType, NamedType, FunctionType, types_list, parts_of, result_of, params_of}
@@ -13,7 +14,7 @@ use Rattle.support.specs.Interned.{IsDistinctList}
 use Rattle.support.proofs.ListLaws.{all_from}
 use Rattle.llvm_core.specs.Data as L
 use Rattle.llvm_core.specs.Data.{Placed, ModuleData, data_of, placed_in}
-use Rattle.llvm_core.specs.Form.{IsForm, IsFormFunction, IsFewIn, HasDistinctNames, HasFew, local_names, value_types}
+use Rattle.llvm_core.specs.Form.{IsForm, IsFormFunction, IsFewIn, HasDistinctNames, HasFew, constant_types, local_names, value_types}
 use Rattle.dialect_types.specs.Trees.{structs_of, IsStored}
 use Rattle.dialect_types.proofs.StructLaws.{store_lacks_none, stored_structs, stored_apart}
 use Rattle.dialect_core.specs.ContextData.{ContextData}
@@ -26,7 +27,7 @@ use Rattle.to_llvm_ir.specs.Exported.{ExportedFunction, IsExported}
 use Rattle.to_llvm_ir.specs.Functions.{IsMadeOf}
 use Rattle.to_llvm_ir.specs.Structs.{HasFewFields}
 use Rattle.to_llvm_ir.proofs.CodeLaws.{names_exported}
-use Rattle.to_llvm_ir.proofs.HeldLaws.{HasTypes, all_types, results_of}
+use Rattle.to_llvm_ir.proofs.HeldLaws.{HasTypes, all_types, results_of, constants_in}
 use Rattle.to_llvm_ir.proofs.ListLaws.{all_at}
 use Rattle.to_llvm_ir.proofs.StructLaws.{structs_nested}
 
@@ -56,6 +57,13 @@ module _ (P : TypeTree → Type 0) (void : P VoidType) where
       subst (All P) (sym (map-append (λ (p : Placed). p.type) (placed_in f) rest))
       (All-append P (results_of f) (map (λ (p : Placed). p.type) rest) (All-head (HasTypes P void) f fs h).results (results_have fs (All-tail (HasTypes P void) f fs h)))
 
+  constants_have : (fs : List L.Function) → All (HasTypes P void) fs → All P (flat_map constant_types (flat_map placed_in fs))
+  constants_have [] h = All-nil P
+  constants_have (f ∷ fs) h =
+      let rest = flat_map placed_in fs in
+      subst (All P) (sym (flat_map-append constant_types (placed_in f) rest))
+      (All-append P (constants_in f) (flat_map constant_types rest) (All-head (HasTypes P void) f fs h).constants (constants_have fs (All-tail (HasTypes P void) f fs h)))
+
 -- ---- types that the dialect has
 
 module _ (structs : List Struct) where
@@ -82,8 +90,8 @@ module _ (structs : List Struct) where
 
   values_lack : (f : L.Function) → HasTypes LacksNone void_lacks f → All LacksNone (value_types f)
   values_lack f h =
-      All-cons LacksNone (result_of f.type) (params_of f.type ++ results_of f) (result_lacks f.type h.type)
-      (All-append LacksNone (params_of f.type) (results_of f) (params_lack f.type h.type) h.results)
+      All-cons LacksNone (result_of f.type) (params_of f.type ++ results_of f ++ constants_in f) (result_lacks f.type h.type)
+      (All-append LacksNone (params_of f.type ++ results_of f) (constants_in f) (All-append LacksNone (params_of f.type) (results_of f) (params_lack f.type h.type) h.results) h.constants)
 
   pub held_if : (d : ModuleData) → d.structs ≡ structs → All (HasTypes LacksNone void_lacks) d.functions → AreHeld d
   held_if d same all of h =
@@ -113,13 +121,16 @@ module _ (c : ContextData) (m : ℕ) (stored : IsStored c.types) (typed : D.IsTy
       let names = all_types (IsNested ss) void (D.data_of c m).functions fs made (data_nested c m stored typed) in
       let types = map (λ (f : L.Function). f.type) fs in
       let results = map (λ (p : Placed). p.type) (flat_map placed_in fs) in
+      let constants = flat_map constant_types (flat_map placed_in fs) in
       record {
         functions = forms (D.data_of c m).functions fs targets exported.functions;
         structs = of_structs (All IsFormStruct) (stored_structs c.types stored);
-        nested = of_structs (λ (xs : List Struct). All (IsNested xs) (map (λ (s : Struct). NamedType s.name) xs ++ types ++ results))
+        nested = of_structs (λ (xs : List Struct). All (IsNested xs) (map (λ (s : Struct). NamedType s.name) xs ++ types ++ results ++ constants))
+            (All-append (IsNested ss) (map (λ (s : Struct). NamedType s.name) ss ++ types ++ results) constants
             (All-append (IsNested ss) (map (λ (s : Struct). NamedType s.name) ss ++ types) results
             (All-append (IsNested ss) (map (λ (s : Struct). NamedType s.name) ss) types (structs_nested c.types stored) (types_have (IsNested ss) void fs names))
-            (results_have (IsNested ss) void fs names));
+            (results_have (IsNested ss) void fs names))
+            (constants_have (IsNested ss) void fs names));
       }
 
   pub distinct_exported : IsDistinctNames (map D.llvm_name_of (D.data_of c m).functions) → HasDistinctNames (data_of back)

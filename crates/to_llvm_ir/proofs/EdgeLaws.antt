@@ -14,11 +14,12 @@ use Rattle.dialect_core.specs.declared.numbers.BlockRef.{BlockRef}
 use Rattle.dialect_core.specs.declared.ops.Value.{Value}
 use Rattle.dialect_core.specs.declared.ops.Value.TheVariants.{Result, Argument}
 use Rattle.dialect_core.specs.declared.ops.Successor.{Successor}
-use Rattle.dialect_core.specs.Data.{DialectOp, DialectBlock, Func, Kind, ConstantOp, RowOp, value_type}
+use Rattle.dialect_core.specs.Data.{DialectOp, DialectBlock, Func, Kind, ConstantOp, FilledOp, RowOp, value_type}
 use Rattle.dialect_core.specs.Rules.{IsEdge, IsOfKind}
 use Rattle.dialect_core.specs.Form.{IsFormFunc, IsHeldValue, FitsTarget, edges_of, is_constant, is_constant_kind}
 use Rattle.to_llvm_ir.specs.Made.{Numbers, block_for, operand_for, instruction_for, inst, insts, phis, block_phis, block_made, blocks_made, passed_to, passed, entry_with, block_passes, entries_from, number_past, number_after, number_behind}
 use Rattle.to_llvm_ir.specs.Links.{HasTarget}
+use Rattle.to_llvm_ir.proofs.ConstLaws.{constant_takes}
 use Rattle.to_llvm_ir.proofs.ListLaws.{AreNumbered, all_at}
 use Rattle.to_llvm_ir.proofs.LookupLaws.{op_form}
 
@@ -66,14 +67,18 @@ module _ (g : Func) (n : Numbers) where
   -- an instruction leads where the operation does
   pub op_targets : (k : Kind) (vs : List Value) (own : Option TypeTree) (ss : List Successor) → IsOfKind (value_type g) g vs own ss k → targets (instruction_for g n k own vs ss) ≡ map target_for ss
   op_targets (ConstantOp (IntegerAttr t v)) vs own ss h = sym (ap (map target_for) h.ends_here)
+  op_targets (FilledOp fill) vs own ss h = sym (ap (map target_for) h.ends_here)
   op_targets (RowOp op) vs own ss h = refl
 
   pub constant_ends : (k : Kind) (vs : List Value) (own : Option TypeTree) (ss : List Successor) → is_constant_kind k ≡ true → IsOfKind (value_type g) g vs own ss k → ss ≡ []
-  constant_ends (ConstantOp (IntegerAttr t v)) vs own ss e h = h.ends_here
-  constant_ends (RowOp op) vs own ss e h = cc
+  constant_ends k vs own ss e h = (constant_takes (value_type g) g vs own ss k e h).1
+
+  no_edges : (ss : List Successor) → ss ≡ [] → All (IsEdge (value_type g) g) ss
+  no_edges ss none = subst (All (IsEdge (value_type g) g)) (sym none) (all_from (IsEdge (value_type g) g) [] (λ i s at. absurd (none-some s at)))
 
   pub op_edges : (k : Kind) (vs : List Value) (own : Option TypeTree) (ss : List Successor) → IsOfKind (value_type g) g vs own ss k → All (IsEdge (value_type g) g) ss
-  op_edges (ConstantOp (IntegerAttr t v)) vs own ss h = subst (All (IsEdge (value_type g) g)) (sym h.ends_here) (all_from (IsEdge (value_type g) g) [] (λ i s at. absurd (none-some s at)))
+  op_edges (ConstantOp (IntegerAttr t v)) vs own ss h = no_edges ss h.ends_here
+  op_edges (FilledOp fill) vs own ss h = no_edges ss h.ends_here
   op_edges (RowOp op) vs own ss h = h.leads.1
 
   abbrev pub leads : Placed → List ℕ

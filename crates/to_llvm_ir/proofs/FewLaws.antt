@@ -14,7 +14,7 @@ use Rattle.dialect_core.specs.declared.numbers.BlockRef.{BlockRef}
 use Rattle.dialect_core.specs.declared.ops.Value.{Value}
 use Rattle.dialect_core.specs.declared.ops.Value.TheVariants.{Result, Argument}
 use Rattle.dialect_core.specs.declared.ops.Successor.{Successor}
-use Rattle.dialect_core.specs.Data.{DialectOp, DialectBlock, Func, Kind, ConstantOp, RowOp, value_type}
+use Rattle.dialect_core.specs.Data.{DialectOp, DialectBlock, Func, Kind, ConstantOp, FilledOp, RowOp, value_type}
 use Rattle.kinds.specs.Table.{rule_of}
 use Rattle.dialect_core.specs.Rules.{IsOfKind, returns_void}
 use Rattle.dialect_core.specs.Form.{IsFormFunc, is_constant, edges_of}
@@ -99,6 +99,7 @@ module _ (g : Func) (n : Numbers) where
 
   few_operands : (k : Kind) (vs : List Value) (own : Option TypeTree) (ss : List Successor) → IsOfKind (value_type g) g vs own ss k → length (operands_of (instruction_for g n k own vs ss)) < 2 ^ 31
   few_operands (ConstantOp value) vs own ss h = omega arith
+  few_operands (FilledOp fill) vs own ss h = omega arith
   few_operands (RowOp op) vs own ss h = let e = length-map vs (operand_for g n) in let c = h.count in let f = takes_few (rule_of op).takes (returns_void g) in omega (arith, e, c, f)
 
   abbrev IsFewOf : Placed → Type 0

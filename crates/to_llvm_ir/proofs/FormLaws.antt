@@ -28,7 +28,7 @@ use Rattle.dialect_core.specs.declared.numbers.BlockRef.{BlockRef}
 use Rattle.dialect_core.specs.declared.ops.Value.{Value}
 use Rattle.dialect_core.specs.declared.ops.Value.TheVariants.{Argument}
 use Rattle.dialect_core.specs.declared.ops.Successor.{Successor}
-use Rattle.dialect_core.specs.Data.{DialectOp, DialectBlock, Func, llvm_name_of, Kind, ConstantOp, RowOp, value_type}
+use Rattle.dialect_core.specs.Data.{DialectOp, DialectBlock, Func, llvm_name_of, Kind, ConstantOp, FilledOp, RowOp, value_type}
 use Rattle.dialect_core.specs.Rules.{IsOfKind, IsReturning, IsRow, type_nth}
 use Rattle.dialect_core.specs.Form.{IsFormFunc, IsFormOp, IsHeldValue, HasTargets, is_constant, is_constant_kind, is_terminator, is_terminator_kind}
 use Rattle.meaning.specs.Dialect.{option_type}
@@ -128,10 +128,12 @@ module _ (g : Func) (form : IsFormFunc g) (n : Numbers) (order : IsOrder (length
 
   ends_alike : (k : Kind) (own : Option TypeTree) (vs : List Value) (ss : List Successor) → F.is_terminator (instruction_for g n k own vs ss) ≡ is_terminator_kind k
   ends_alike (ConstantOp value) own vs ss = refl
+  ends_alike (FilledOp fill) own vs ss = refl
   ends_alike (RowOp op) own vs ss = refl
 
   terminator_other : (k : Kind) → is_terminator_kind k ≡ true → is_constant_kind k ≡ false
   terminator_other (ConstantOp value) e = cc
+  terminator_other (FilledOp fill) e = cc
   terminator_other (RowOp op) e = refl
 
   insts_open : (k : ℕ) (os : List DialectOp) → All (λ (o : DialectOp). is_terminator o ≡ false) os → list_any is_last (insts g n k os) ≡ false
@@ -245,6 +247,7 @@ module _ (g : Func) (form : IsFormFunc g) (n : Numbers) (order : IsOrder (length
   instruction_form : (b : ℕ) (kind : Kind) (vs : List Value) (own : Option TypeTree) (ss : List Successor) → IsOfKind (value_type g) g vs own ss kind → is_constant_kind kind ≡ false → All (IsHeldValue g) vs → All (λ (s : Successor). IsTarget made (target_for g n s)) ss
       → IsFormInstruction made b (option_type own) (instruction_for g n kind own vs ss)
   instruction_form b (ConstantOp value) vs own ss h other held targets = absurd (let e : true ≡ false = other in cc)
+  instruction_form b (FilledOp fill) vs own ss h other held targets = absurd (let e : true ≡ false = other in cc)
   instruction_form b (RowOp op) vs own ss h other held targets = row_form op vs own ss h held targets
 
   placed_form : (b k : ℕ) (o : DialectOp) → IsFormOp g o → is_constant o ≡ false → IsGoodOrNone (result_name o.name o.result k) → All (λ (s : Successor). IsTarget made (target_for g n s)) o.successors → IsFormPlaced made b (inst g n k o)

@@ -1,35 +1,46 @@
 -- The types of a function that an export makes are those of the dialect's function: what holds of these holds of those, and
 -- so they are held.
-use Rattle.std.proofs.Common.{ℕ, zero, suc, ◌≡◌, ◌+◌, refl, sym, subst, Bool, true, false, if◌then◌else◌, List, [], ◌∷◌, ◌++◌, Option, Some, None, All, length, map, slice_get}
+use Rattle.std.proofs.Common.{ℕ, zero, suc, ◌≡◌, ◌+◌, refl, sym, subst, Bool, true, false, nat_eq, if◌then◌else◌, List, [], ◌∷◌, ◌++◌, Option, Some, None, All, length, map, slice_get}
 use Rattle.std.specs.Prelude.{IfSome}
-use Rattle.std.specs.List.{flat_map}
+use Rattle.std.specs.List.{flat_map, find}
+use Rattle.std.specs.Option.{option_map_or}
 use Rattle.std.proofs.lemmas.List.Elements.{All-nil, All-cons, All-head, All-tail, All-append, All-map, All-weaker}
 use Rattle.kinds.specs.Types.{TypeTree, VoidType, types_list, result_of, params_of}
 use Rattle.kinds.specs.Held.{IsHeld, IsHeldResult}
 use Rattle.kinds.proofs.HeldLaws.{held_result_if, held_result_void}
 use Rattle.llvm_core.specs.Data as L
-use Rattle.llvm_core.specs.Data.{Operand, Placed, placed_in}
-use Rattle.llvm_core.specs.Form.{IsHeldFunction}
+use Rattle.llvm_core.specs.Data.{Operand, Placed, placed_in, const_type}
+use Rattle.llvm_core.specs.Form.{IsHeldFunction, operands_of, constant_type, constant_types}
 use Rattle.dialect_core.specs.declared.ops.Value.{Value}
-use Rattle.dialect_core.specs.Data.{DialectOp, DialectBlock, Func}
+use Rattle.dialect_core.specs.declared.ops.Value.TheVariants.{Argument, Result}
+use Rattle.dialect_core.specs.declared.ops.Successor.{Successor}
+use Rattle.dialect_core.specs.Data.{DialectOp, DialectBlock, Func, Kind, ConstantOp, FilledOp, RowOp, ops_in, value_type}
 use Rattle.dialect_core.specs.Form.{IsFormFunc, IsFormOp, IsFormBlock, is_constant}
 use Rattle.dialect_core.specs.Nested.{BlockNames, FuncNames}
+use Rattle.dialect_core.proofs.FuncLemmas.{find_there}
 use Rattle.meaning.specs.Dialect.{option_type}
 use Rattle.meaning.specs.Pairs.{Matched}
 use Rattle.to_llvm_ir.specs.Functions.{IsMadeOf}
-use Rattle.to_llvm_ir.specs.Made.{Numbers, number_after, number_behind, inst, insts, phis, block_phis, blocks_made, entries, function_made}
+use Rattle.to_llvm_ir.specs.Made.{Numbers, constant_or, is_entry, number_of, operand_for, instruction_for, number_after, number_behind, inst, insts, phis, block_phis, blocks_made, entries, function_made}
+use Rattle.to_llvm_ir.proofs.ConstLaws.{constant_of, constant_is, other_is, constant_result, constant_typed}
+use Rattle.to_llvm_ir.proofs.CountLaws.{comes_by}
 use Rattle.to_llvm_ir.proofs.ListLaws.{all_at}
-use Rattle.to_llvm_ir.proofs.LookupLaws.{block_form}
+use Rattle.to_llvm_ir.proofs.LookupLaws.{block_form, op_form, op_of_block}
 
 -- the types of the results of a function's instructions
 abbrev pub results_of : L.Function → List TypeTree
 results_of f = map (λ (p : Placed). p.type) (placed_in f)
 
+-- the types of the constants that they use
+abbrev pub constants_in : L.Function → List TypeTree
+constants_in f = flat_map constant_types (placed_in f)
+
 -- ---- what holds of each type that a function names
 
 module _ (P : TypeTree → Type 0) (void : P VoidType) where
+  -- of the type of an instruction's result, and of the types of the constants that it uses
   abbrev HasPlaced : Placed → Type 0
-  HasPlaced p = P p.type
+  HasPlaced p = P p.type × All P (constant_types p)
 
   abbrev HasResult : DialectOp → Type 0
   HasResult o = IfSome o.result P
@@ -38,45 +49,110 @@ module _ (P : TypeTree → Type 0) (void : P VoidType) where
   own_has None h = void
   own_has (Some t) h = h
 
-  module _ (g : Func) (n : Numbers) where
+  module _ (g : Func) (form : IsFormFunc g) (n : Numbers) (names : (j : ℕ) (c : DialectBlock) → slice_get g.blocks j ≡ Some c → BlockNames P c) where
+    -- ---- constants
+
+    -- a constant is of the type of a result
+    constant_has : (m : ℕ) (o : DialectOp) → IsFormOp g o → HasResult o → All P (constant_type (constant_or (L.Result m) o.result o.kind))
+    constant_has m o h own = by (is_constant o) refl
+      where
+        by : (b : Bool) → is_constant o ≡ b → All P (constant_type (constant_or (L.Result m) o.result o.kind))
+        by true e =
+            let t = constant_result (value_type g) g o.operands o.result o.successors o.kind e h.kind in
+            let typed = constant_typed (value_type g) g o.operands o.result o.successors t.0 o.kind e t.1 h.kind in
+            let one : P (const_type (constant_of o.result o.kind)) = subst P (sym typed) (subst (λ (r : Option TypeTree). IfSome r P) t.1 own) in
+            subst (λ (x : Operand). All P (constant_type x)) (sym (constant_is (L.Result m) o.result o.kind e)) (All-cons P (const_type (constant_of o.result o.kind)) [] one (All-nil P))
+        by false e = subst (λ (x : Operand). All P (constant_type x)) (sym (other_is (L.Result m) o.result o.kind e)) (All-nil P)
+
+    operand_has : (v : Value) → All P (constant_type (operand_for g n v))
+    operand_has (Argument b i) = by (is_entry g b.0)
+      where
+        by : (t : Bool) → All P (constant_type (if t then L.Parameter n.function i else L.Result (number_of g n (Argument b i))))
+        by true = All-nil P
+        by false = All-nil P
+    operand_has (Result r) = by (find (λ (o : DialectOp). nat_eq o.number r.0) (ops_in g)) refl
+      where
+        by : (x : Option DialectOp) → find (λ (o : DialectOp). nat_eq o.number r.0) (ops_in g) ≡ x → All P (constant_type (option_map_or (λ (o : DialectOp). constant_or (L.Result (number_of g n (Result r))) o.result o.kind) x (L.Result (number_of g n (Result r)))))
+        by None e = All-nil P
+        by (Some o) e =
+            let f = find_there (λ (o : DialectOp). nat_eq o.number r.0) (ops_in g) o e in
+            let b = op_of_block g.blocks f.0 o f.1 in
+            constant_has (number_of g n (Result r)) o (op_form g form b.0 b.1 b.2 o b.3 b.4) (all_at HasResult b.2.ops b.1 o (names b.0 b.2 b.3).results b.4)
+
+    operands_have : (vs : List Value) → All P (flat_map constant_type (map (operand_for g n) vs))
+    operands_have [] = All-nil P
+    operands_have (v ∷ vs) = All-append P (constant_type (operand_for g n v)) (flat_map constant_type (map (operand_for g n) vs)) (operand_has v) (operands_have vs)
+
+    kind_has : (k : Kind) (own : Option TypeTree) (vs : List Value) (ss : List Successor) → All P (flat_map constant_type (operands_of (instruction_for g n k own vs ss)))
+    kind_has (ConstantOp value) own vs ss = All-nil P
+    kind_has (FilledOp fill) own vs ss = All-nil P
+    kind_has (RowOp op) own vs ss = operands_have vs
+
+    -- what an edge passes is an operand
+    entries_have : (es : List (Operand × ℕ)) → ((l : ℕ) (x : Operand × ℕ) → slice_get es l ≡ Some x → (v : Value) × (x.0 ≡ operand_for g n v)) → All P (flat_map constant_type (map (λ (e : Operand × ℕ). e.0) es))
+    entries_have [] h = All-nil P
+    entries_have (e ∷ es) h =
+        let v = h 0 e refl in
+        All-append P (constant_type e.0) (flat_map constant_type (map (λ (e : Operand × ℕ). e.0) es)) (subst (λ (x : Operand). All P (constant_type x)) (sym v.1) (operand_has v.0)) (entries_have es (λ l x at. h (suc l) x at))
+
+    phi_has : (b i : ℕ) → All P (flat_map constant_type (operands_of (L.Phi (entries g n (Argument (record { 0 = b }) i)))))
+    phi_has b i = entries_have (entries g n (Argument (record { 0 = b }) i)) (λ l x at. let c = comes_by g n n.order (record { 0 = b }) i l x at in (c.value, c.is))
+
+    -- ---- instructions
+
     insts_have : (k : ℕ) (os : List DialectOp) → All HasResult os → All HasPlaced (insts g n k os)
     insts_have k [] h = All-nil HasPlaced
     insts_have k (o ∷ os) h = by (is_constant o) (insts_have (number_after o.result k) os (All-tail HasResult o os h))
       where
         by : (t : Bool) → All HasPlaced (insts g n (number_after o.result k) os) → All HasPlaced (if t then insts g n (number_after o.result k) os else inst g n k o ∷ insts g n (number_after o.result k) os)
         by true rest = rest
-        by false rest = All-cons HasPlaced (inst g n k o) (insts g n (number_after o.result k) os) (own_has o.result (All-head HasResult o os h)) rest
+        by false rest = All-cons HasPlaced (inst g n k o) (insts g n (number_after o.result k) os) (own_has o.result (All-head HasResult o os h), kind_has o.kind o.result o.operands o.successors) rest
 
-    module _ (given : Value → List (Operand × ℕ)) where
-      phis_have : (b i k : ℕ) (ts : List TypeTree) → All P ts → All HasPlaced (phis g n given b i k ts)
-      phis_have b i k [] h = All-nil HasPlaced
-      phis_have b i k (t ∷ ts) h = All-cons HasPlaced _ (phis g n given b (suc i) (k + 1) ts) (All-head P t ts h) (phis_have b (suc i) (k + 1) ts (All-tail P t ts h))
+    phis_have : (b i k : ℕ) (ts : List TypeTree) → All P ts → All HasPlaced (phis g n (entries g n) b i k ts)
+    phis_have b i k [] h = All-nil HasPlaced
+    phis_have b i k (t ∷ ts) h = All-cons HasPlaced _ (phis g n (entries g n) b (suc i) (k + 1) ts) (All-head P t ts h, phi_has b i) (phis_have b (suc i) (k + 1) ts (All-tail P t ts h))
 
-      block_phis_have : (place k : ℕ) (c : DialectBlock) → All P c.args → All HasPlaced (block_phis g n given place k c)
-      block_phis_have zero k c h = All-nil HasPlaced
-      block_phis_have (suc p) k c h = phis_have c.number 0 k c.args h
+    block_phis_have : (place k : ℕ) (c : DialectBlock) → All P c.args → All HasPlaced (block_phis g n (entries g n) place k c)
+    block_phis_have zero k c h = All-nil HasPlaced
+    block_phis_have (suc p) k c h = phis_have c.number 0 k c.args h
 
-      blocks_have : (place k : ℕ) (cs : List DialectBlock) → ((j : ℕ) (c : DialectBlock) → slice_get cs j ≡ Some c → BlockNames P c)
-          → All HasPlaced (flat_map (λ (b : L.Block). b.instructions) (blocks_made g n given place k cs))
-      blocks_have place k [] h = All-nil HasPlaced
-      blocks_have place k (c ∷ cs) h =
-          let here = h 0 c refl in
-          let behind = number_behind (k + length c.args) c.ops in
-          All-append HasPlaced (block_phis g n given place k c ++ insts g n (k + length c.args) c.ops) (flat_map (λ (b : L.Block). b.instructions) (blocks_made g n given (suc place) behind cs))
-          (All-append HasPlaced (block_phis g n given place k c) (insts g n (k + length c.args) c.ops) (block_phis_have place k c here.args) (insts_have (k + length c.args) c.ops here.results))
-          (blocks_have (suc place) behind cs (λ j d at. h (suc j) d at))
+    blocks_have : (place k : ℕ) (cs : List DialectBlock) → ((j : ℕ) (c : DialectBlock) → slice_get cs j ≡ Some c → BlockNames P c)
+        → All HasPlaced (flat_map (λ (b : L.Block). b.instructions) (blocks_made g n (entries g n) place k cs))
+    blocks_have place k [] h = All-nil HasPlaced
+    blocks_have place k (c ∷ cs) h =
+        let here = h 0 c refl in
+        let behind = number_behind (k + length c.args) c.ops in
+        All-append HasPlaced (block_phis g n (entries g n) place k c ++ insts g n (k + length c.args) c.ops) (flat_map (λ (b : L.Block). b.instructions) (blocks_made g n (entries g n) (suc place) behind cs))
+        (All-append HasPlaced (block_phis g n (entries g n) place k c) (insts g n (k + length c.args) c.ops) (block_phis_have place k c here.args) (insts_have (k + length c.args) c.ops here.results))
+        (blocks_have (suc place) behind cs (λ j d at. h (suc j) d at))
+
+    placed_have : All HasPlaced (placed_in (function_made g n (entries g n)))
+    placed_have = blocks_have 0 0 g.blocks names
 
     -- holds of each result of the function that is made of it
-    pub made_results : ((j : ℕ) (c : DialectBlock) → slice_get g.blocks j ≡ Some c → BlockNames P c) → All P (results_of (function_made g n (entries g n)))
-    made_results h = All-map P (λ (p : Placed). p.type) (placed_in (function_made g n (entries g n))) (blocks_have (entries g n) 0 0 g.blocks h)
+    pub made_results : All P (results_of (function_made g n (entries g n)))
+    made_results =
+        let ps = placed_in (function_made g n (entries g n)) in
+        All-map P (λ (p : Placed). p.type) ps (All-weaker HasPlaced (λ (p : Placed). P p.type) (λ p h. h.0) ps placed_have)
+
+    -- and of the type of each constant there
+    pub made_constants : All P (constants_in (function_made g n (entries g n)))
+    made_constants = joined (placed_in (function_made g n (entries g n))) placed_have
+      where
+        joined : (ps : List Placed) → All HasPlaced ps → All P (flat_map constant_types ps)
+        joined [] h = All-nil P
+        joined (p ∷ ps) h = All-append P (constant_types p) (flat_map constant_types ps) (All-head HasPlaced p ps h).1 (joined ps (All-tail HasPlaced p ps h))
 
   -- and of its type
   pub record HasTypes (f : L.Function) : Type 0 where
     pub type : P f.type
     pub results : All P (results_of f)
+    pub constants : All P (constants_in f)
 
   made_types : (g : Func) (f : L.Function) → IsMadeOf g f → FuncNames P g → HasTypes f
-  made_types g f h names = subst HasTypes (sym h.is) (record { type = names.type; results = made_results g h.numbers (λ j c at. all_at (BlockNames P) g.blocks j c names.blocks at) })
+  made_types g f h names =
+      let blocks : (j : ℕ) (c : DialectBlock) → slice_get g.blocks j ≡ Some c → BlockNames P c = λ j c at. all_at (BlockNames P) g.blocks j c names.blocks at in
+      subst HasTypes (sym h.is) (record { type = names.type; results = made_results g h.form h.numbers blocks; constants = made_constants g h.form h.numbers blocks })
 
   -- of functions, one by one
   pub all_types : (gs : List Func) (fs : List L.Function) → Matched IsMadeOf gs fs → All (FuncNames P) gs → All HasTypes fs
@@ -100,7 +176,11 @@ block_held g c form = record {
 pub made_held : (g : Func) (n : Numbers) → IsFormFunc g → IsHeldFunction (function_made g n (entries g n))
 made_held g n form =
     let results = results_of (function_made g n (entries g n)) in
+    let constants = constants_in (function_made g n (entries g n)) in
+    let void = held_result_void VoidType refl in
+    let names : (j : ℕ) (c : DialectBlock) → slice_get g.blocks j ≡ Some c → BlockNames IsHeldResult c = λ j c at. block_held g c (block_form g form j c at) in
     let takes : All IsHeldResult (types_list form.types) = All-weaker IsHeld IsHeldResult held_result_if (types_list form.types) form.takes in
-    All-cons IsHeldResult (result_of g.type) (params_of g.type ++ results) (subst (λ (t : TypeTree). IsHeldResult (result_of t)) (sym form.type) form.returns)
-    (All-append IsHeldResult (params_of g.type) results (subst (λ (t : TypeTree). All IsHeldResult (params_of t)) (sym form.type) takes)
-    (made_results IsHeldResult (held_result_void VoidType refl) g n (λ j c at. block_held g c (block_form g form j c at))))
+    All-cons IsHeldResult (result_of g.type) (params_of g.type ++ results ++ constants) (subst (λ (t : TypeTree). IsHeldResult (result_of t)) (sym form.type) form.returns)
+    (All-append IsHeldResult (params_of g.type ++ results) constants
+    (All-append IsHeldResult (params_of g.type) results (subst (λ (t : TypeTree). All IsHeldResult (params_of t)) (sym form.type) takes) (made_results IsHeldResult void g form n names))
+    (made_constants IsHeldResult void g form n names))

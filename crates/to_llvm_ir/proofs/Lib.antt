@@ -51,6 +51,8 @@ pub mod ValueLaws
 pub mod FinishLaws
 pub mod StartedLaws
 pub mod CodeLaws
+pub mod ConstLaws
+pub mod ConstOpLaws
 pub mod NarrowLaws
 pub mod OpDataLaws
 pub mod FuncDataLaws

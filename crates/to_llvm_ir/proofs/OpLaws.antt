@@ -6,19 +6,14 @@ use Rattle.std.specs.Option.{option_map, option_and_then}
 use Rattle.std.proofs.lemmas.Option.{same_Some, none-some}
 use Rattle.std.proofs.lemmas.List.Elements.{Contains-append_left, Contains-append_right}
 use Rattle.support.proofs.ListLaws.{contains_at}
-use Rattle.llvm_core.specs.declared.numbers.LLVMType.{LLVMType}
-use Rattle.llvm_core.specs.declared.types.LLVMTypeKind.TheVariants as T
 use Rattle.llvm_core.specs.declared.code.LLVMValue.{LLVMValue}
 use Rattle.llvm_core.specs.Module.{Module}
 use Rattle.llvm_core.specs.Sound.{IsModule}
 use Rattle.llvm_core.specs.Parts.{IsValue}
 use Rattle.llvm_core.specs.Data as L
 use Rattle.kinds.specs.Held.{IsHeld}
-use Rattle.kinds.proofs.HeldLaws.{int_held}
 use Rattle.dialect_types.specs.declared.types.TypeHandle.{TypeHandle}
-use Rattle.dialect_types.specs.declared.attrs.ConstAttr.{ConstAttr}
-use Rattle.dialect_types.specs.declared.attrs.ConstAttr.TheVariants as A
-use Rattle.dialect_types.specs.Trees.{TypeTree, IntegerAttr, type_at, type_trees, attr_tree}
+use Rattle.dialect_types.specs.Trees.{TypeTree, type_at, type_trees, attr_tree}
 use Rattle.dialect_core.specs.declared.numbers.OpRef.{OpRef}
 use Rattle.dialect_core.specs.declared.ops.Value.{Value}
 use Rattle.dialect_core.specs.declared.ops.Successor.{Successor}
@@ -26,14 +21,14 @@ use Rattle.dialect_core.specs.declared.ops.OpKind.{OpKind}
 use Rattle.dialect_core.specs.declared.ops.OpKind.TheVariants as K
 use Rattle.dialect_core.specs.declared.ops.OpData.{OpData}
 use Rattle.dialect_core.specs.ContextData.{ContextData, kind_at}
-use Rattle.dialect_core.specs.Data.{HasKindTypesBelow, IsTyped, Kind, ConstantOp, RowOp, DialectOp, kind_of, op_of, op_at, value_type}
-use Rattle.dialect_core.specs.Rules.{IsOfKind, IsIntegerOf}
-use Rattle.dialect_core.specs.Form.{IsFormOp, is_constant, is_constant_kind}
-use Rattle.to_llvm_ir.specs.Growth.{HasType, IsTypeOf}
+use Rattle.dialect_core.specs.Data.{IsTyped, Kind, ConstantOp, FilledOp, RowOp, DialectOp, kind_of, op_of, op_at, value_type}
+use Rattle.dialect_core.specs.Rules.{IsOfKind}
+use Rattle.dialect_core.specs.Form.{IsFormOp}
+use Rattle.to_llvm_ir.specs.Growth.{HasType}
 use Rattle.to_llvm_ir.specs.Exported.{result}
 use Rattle.to_llvm_ir.specs.States.{Spot, IsSpot, IsUsed}
 use Rattle.to_llvm_ir.proofs.LookupLaws.{op_form, result_type}
-use Rattle.to_llvm_ir.proofs.GrowthLaws.{int_at, value_there}
+use Rattle.to_llvm_ir.proofs.GrowthLaws.{value_there}
 
 -- ---- what the context has under the number of an operation
 
@@ -128,42 +123,6 @@ passed_used s l i e v type at at' typed = record {
 pub typed_there : (m : Module) (x : LLVMValue) (tree : L.TypeTree) → IsModule m → HasType m x tree → IsValue m x
 typed_there m x tree s h = value_there m x h.0 s h.1
 
--- ---- constants
-
-pub record ConstantParts (o : DialectOp) (type : TypeTree) (value : ℕ) : Type 0 where
-  pub kind : o.kind ≡ ConstantOp (IntegerAttr type value)
-  pub constant : is_constant o ≡ true
-  pub integer : IsIntegerOf type value
-  pub result : o.result ≡ Some type
-  pub operands : o.operands ≡ []
-  pub successors : o.successors ≡ []
-
-pub constant_parts : (c : ContextData) (op : OpRef) (s : Spot) (value : ConstAttr) (ty : TypeHandle) (n : ℕ) → IsSpot c op s → kind_at c.ops op ≡ Some (K.Constant value) → value ≡ A.Integer ty n → ConstantParts s.op (type_at (type_trees c.types) ty) n
-constant_parts c op s value ty n h at value_is =
-    let ts = type_trees c.types in
-    let k = spot_kind c op s (K.Constant value) (ConstantOp (IntegerAttr (type_at ts ty) n)) h at (ap (λ (v : ConstAttr). Some (ConstantOp (attr_tree ts v))) value_is) in
-    record { kind = k.0; constant = ap is_constant_kind k.0; integer = k.1.integer; result = k.1.result; operands = k.1.bare; successors = k.1.ends_here }
-
--- and its type is translated
-pub constant_held : (o : DialectOp) (type : TypeTree) (value : ℕ) → ConstantParts o type value → IsHeld type
-constant_held o type value parts = let h = parts.integer in subst IsHeld (sym h.1) (int_held h.0 h.2.0 (omega (arith, h.2.1)))
-
--- the number of its type is there
-pub constant_type_there : (c : ContextData) (op : OpRef) (value : ConstAttr) (ty : TypeHandle) (n : ℕ) → IsTyped c → kind_at c.ops op ≡ Some (K.Constant value) → value ≡ A.Integer ty n → ty.0 < length c.types
-constant_type_there c op value ty n typed at value_is = by (slice_get c.ops op.0) refl at
-  where
-    by : (x : Option OpData) → slice_get c.ops op.0 ≡ x → option_map (λ (x : OpData). x.kind) x ≡ Some (K.Constant value) → ty.0 < length c.types
-    by None e f = absurd (none-some _ f)
-    by (Some x) e f =
-        let kind : x.kind ≡ K.Constant (A.Integer ty n) = same_Some x.kind (K.Constant value) f ∙ ap K.Constant value_is in
-        subst (HasKindTypesBelow (length c.types)) kind (typed.ops op.0 x e).kind
-
--- the constant of LLVM fits its type
-pub constant_fits : (m : Module) (o : DialectOp) (type : TypeTree) (value from : ℕ) (ty : LLVMType) → IsModule m → ConstantParts o type value → IsTypeOf m ty type → from ≡ value → (w : ℕ) × (slice_get m.types ty.0 ≡ Some (T.Int w)) × (from < 2 ^ w)
-constant_fits m o type value from ty s parts ty_is from_is =
-    let h = parts.integer in
-    (h.0, int_at m ty h.0 s (subst (IsTypeOf m ty) h.1 ty_is), subst (λ (n : ℕ). n < 2 ^ h.0) (sym from_is) h.3)
-
 -- ---- results
 
 -- the number of the type of a result is there
@@ -201,6 +160,7 @@ pub kind_there : (ts : List TypeTree) (k : OpKind) → (k ≡ K.Module → ⊥) 
 kind_there ts K.Module h f = absurd (h refl)
 kind_there ts K.Func h f = absurd (f refl)
 kind_there ts (K.Constant value) h f = (ConstantOp (attr_tree ts value), refl)
+kind_there ts (K.Filled fill) h f = (FilledOp fill, refl)
 kind_there ts (K.Row op) h f = (RowOp op, refl)
 
 -- no spot is at what is no operation of a block
@@ -210,7 +170,3 @@ nowhere c op s none h = none-some s.op (sym none ∙ h.is)
 -- there is no spot where the context has a module or a function
 pub no_spot : (c : ContextData) (op : OpRef) (s : Spot) (k : OpKind) → IsSpot c op s → kind_at c.ops op ≡ Some k → kind_of (type_trees c.types) k ≡ None → ⊥
 no_spot c op s k h at none = nowhere c op s (op_missing (type_trees c.types) c.ops op k at none) h
-
--- a constant has neither operands nor successors
-pub constant_bare : (c : ContextData) (op : OpRef) (s : Spot) (value : ConstAttr) → IsSpot c op s → kind_at c.ops op ≡ Some (K.Constant value) → (s.op.operands ≡ []) × (s.op.successors ≡ []) × (is_constant s.op ≡ true)
-constant_bare c op s (A.Integer ty n) h at = let p = constant_parts c op s (A.Integer ty n) ty n h at refl in (p.operands, p.successors, p.constant)

@@ -14,7 +14,7 @@ use Rattle.dialect_core.specs.declared.ops.Value.TheVariants.{Result, Argument}
 use Rattle.dialect_core.specs.declared.ops.Successor.{Successor}
 use Rattle.dialect_core.specs.Lists.{Stands, list_at}
 use Rattle.dialect_core.specs.ContextData.{ContextData, region_at}
-use Rattle.dialect_core.specs.Data.{Kind, ConstantOp, RowOp, DialectOp, DialectBlock, Func, op_at, block_of, block_in, func_in, held, type_in}
+use Rattle.dialect_core.specs.Data.{Kind, ConstantOp, FilledOp, RowOp, DialectOp, DialectBlock, Func, op_at, block_of, block_in, func_in, held, type_in}
 use Rattle.dialect_core.specs.Form.{HasOwnValues, IsInOrder, IsValueOf, StandsBefore, uses_of}
 use Rattle.dialect_core.specs.Rules.{IsFirstClassBy}
 use Rattle.dialect_core.specs.WellFormed.{IsEdge, IsOfKind, IsTypedBy, IsWellFormedBlock, IsWellFormedFunc, IsWellFormedOp, Typing}
@@ -110,6 +110,7 @@ module _ (types : Typing) where
 
     kind_typed : (vs : List Value) (own : Option TypeTree) (ss : List Successor) (k : Kind) → IsOfKind types g vs own ss k → All P vs × All P (args ss)
     kind_typed vs own ss (ConstantOp (IntegerAttr t v)) h = (none vs h.bare, no_edges ss h.ends_here)
+    kind_typed vs own ss (FilledOp fill) h = (none vs h.bare, no_edges ss h.ends_here)
     kind_typed vs own ss (RowOp op) h = (All-weaker (IsFirstClassBy types) P (λ v t. (t.0, t.1)) vs h.values, edges ss h.leads.1)
 
     uses_typed : (o : DialectOp) → IsWellFormedOp types g o → All P (uses_of o)

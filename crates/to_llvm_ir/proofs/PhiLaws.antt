@@ -16,7 +16,7 @@ use Rattle.dialect_core.specs.declared.numbers.BlockRef.{BlockRef}
 use Rattle.dialect_core.specs.declared.ops.Value.{Value}
 use Rattle.dialect_core.specs.declared.ops.Value.TheVariants.{Argument}
 use Rattle.dialect_core.specs.declared.ops.Successor.{Successor}
-use Rattle.dialect_core.specs.Data.{DialectOp, DialectBlock, Func, Kind, ConstantOp, RowOp}
+use Rattle.dialect_core.specs.Data.{DialectOp, DialectBlock, Func, Kind, ConstantOp, FilledOp, RowOp}
 use Rattle.dialect_core.specs.Form.{IsFormFunc, FitsTarget, edges_of, is_constant, is_constant_kind}
 use Rattle.meaning.specs.Pairs.{BothOrNone}
 use Rattle.to_llvm_ir.specs.Exported.{phi_types, edge_sources, blocks_by, HasEdges, HasPhis}
@@ -51,6 +51,7 @@ phis_only xs ys h k =
 module _ (g : Func) (n : Numbers) where
   pub no_phi : (k : Kind) (own : Option TypeTree) (vs : List Value) (ss : List Successor) → is_constant_kind k ≡ false → phi_entries (instruction_for g n k own vs ss) ≡ None
   no_phi (ConstantOp value) own vs ss e = cc
+  no_phi (FilledOp fill) own vs ss e = cc
   no_phi (RowOp op) own vs ss e = refl
 
   -- what holds of all that has no entries

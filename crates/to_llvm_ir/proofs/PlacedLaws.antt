@@ -1,30 +1,29 @@
 -- The instructions of the function that is made: one for each value, in order.
-use Rattle.std.proofs.Common.{◌≡◌, ◌<◌, ◌+◌, ◌^◌, ℕ, zero, suc, Bool, true, false, not, nat_eq, if◌then◌else◌, List, [], ◌∷◌, ◌++◌, Option, Some, length, map, slice_get, refl, sym, ap, subst, ◌∙◌, arith, eq-eqb}
+use Rattle.std.proofs.Common.{◌≡◌, ◌<◌, ◌+◌, ℕ, zero, suc, Bool, true, false, not, nat_eq, if◌then◌else◌, List, [], ◌∷◌, ◌++◌, Option, Some, length, map, slice_get, refl, sym, ap, subst, ◌∙◌, arith, eq-eqb}
 use Rattle.std.specs.List.{flat_map}
 use Rattle.std.specs.Option.{option_map_or}
 use Rattle.std.proofs.lemmas.Option.{same_Some, none-some, slice_get_within}
 use Rattle.std.proofs.lemmas.Bool.{cond-true, cond-false}
 use Rattle.std.proofs.lemmas.List.{length-map}
 use Rattle.kinds.specs.Types.{types_list, count_types}
-use Rattle.kinds.specs.Held.{width_in, IsShortWidth}
 use Rattle.kinds.proofs.HeldLaws.{held_first_class}
 use Rattle.meaning.proofs.MatchedLaws.{matched_append}
 use Rattle.llvm_core.specs.Data as L
 use Rattle.llvm_core.specs.Data.{Operand, Placed, Block, Function, placed_in, operand_type}
 use Rattle.llvm_core.specs.Form as F
-use Rattle.dialect_types.specs.Trees.{TypeTree, TypeTrees, IntType, NoTypes, ThenType, AttrTree, IntegerAttr}
+use Rattle.dialect_types.specs.Trees.{TypeTree, TypeTrees, NoTypes, ThenType}
 use Rattle.block_order.specs.Order.{IsOrder}
 use Rattle.dialect_core.specs.declared.numbers.BlockRef.{BlockRef}
 use Rattle.dialect_core.specs.declared.numbers.OpRef.{OpRef}
 use Rattle.dialect_core.specs.declared.ops.Value.{Value}
 use Rattle.dialect_core.specs.declared.ops.Value.TheVariants.{Result, Argument}
-use Rattle.dialect_core.specs.Data.{DialectOp, DialectBlock, Func, Kind, ConstantOp, RowOp, value_type}
-use Rattle.dialect_core.specs.Rules.{IsOfKind}
-use Rattle.dialect_core.specs.Form.{IsFormFunc, IsOperand, is_constant, is_constant_kind, others_of}
+use Rattle.dialect_core.specs.Data.{DialectOp, DialectBlock, Func, value_type}
+use Rattle.dialect_core.specs.Form.{IsFormFunc, IsFormOp, IsOperand, is_constant, others_of}
 use Rattle.meaning.specs.Pairs.{Matched}
 use Rattle.meaning.specs.Dialect.{option_type}
 use Rattle.to_llvm_ir.specs.Exported.{result, arguments_from, phi_values}
-use Rattle.to_llvm_ir.specs.Made.{Numbers, result_values, values_from, values, values_by, const_of, constant_or, is_entry, number_of, operand_for, inst, insts, phis, block_phis, block_made, blocks_made, function_made, entry_args, number_after, number_behind}
+use Rattle.to_llvm_ir.specs.Made.{Numbers, result_values, values_from, values, values_by, constant_or, is_entry, number_of, operand_for, inst, insts, phis, block_phis, block_made, blocks_made, function_made, entry_args, number_after, number_behind}
+use Rattle.to_llvm_ir.proofs.ConstLaws.{constant_of, constant_is, other_is, constant_form, constant_typed}
 use Rattle.to_llvm_ir.proofs.ListLaws.{AreNumbered, find_numbered}
 use Rattle.to_llvm_ir.proofs.PlaceLaws.{place_at}
 use Rattle.to_llvm_ir.proofs.TurnLaws.{values_distinct, values_by_distinct, values_by_at, values_by_from, argument_among, result_among}
@@ -151,24 +150,20 @@ module _ (g : Func) (form : IsFormFunc g) (n : Numbers) (order : IsOrder (length
   pub param_operand : (i : ℕ) (b : BlockRef) → is_entry g b.0 ≡ true → operand_for g n (Argument b i) ≡ L.Parameter n.function i
   param_operand i b entry = cond-true (is_entry g b.0) (L.Parameter n.function i) (L.Result (number_of g n (Argument b i))) entry
 
-  op_operand : (j k : ℕ) (r : OpRef) (c : DialectBlock) (o : DialectOp) → slice_get g.blocks j ≡ Some c → slice_get c.ops k ≡ Some o → o.number ≡ r.0 → operand_for g n (Result r) ≡ constant_or (L.Result (number_of g n (Result r))) o.kind
-  op_operand j k r c o at at' is = ap (λ (x : Option DialectOp). option_map_or (λ (o : DialectOp). constant_or (L.Result (number_of g n (Result r))) o.kind) x (L.Result (number_of g n (Result r)))) (op_found g form j k r.0 c o at at' is)
+  op_operand : (j k : ℕ) (r : OpRef) (c : DialectBlock) (o : DialectOp) → slice_get g.blocks j ≡ Some c → slice_get c.ops k ≡ Some o → o.number ≡ r.0 → operand_for g n (Result r) ≡ constant_or (L.Result (number_of g n (Result r))) o.result o.kind
+  op_operand j k r c o at at' is = ap (λ (x : Option DialectOp). option_map_or (λ (o : DialectOp). constant_or (L.Result (number_of g n (Result r))) o.result o.kind) x (L.Result (number_of g n (Result r)))) (op_found g form j k r.0 c o at at' is)
 
-  pub constant_operand : (j k : ℕ) (r : OpRef) (c : DialectBlock) (o : DialectOp) (value : AttrTree) → slice_get g.blocks j ≡ Some c → slice_get c.ops k ≡ Some o → o.number ≡ r.0 → o.kind ≡ ConstantOp value → operand_for g n (Result r) ≡ L.Constant (const_of value)
-  constant_operand j k r c o value at at' is kind = op_operand j k r c o at at' is ∙ ap (constant_or (L.Result (number_of g n (Result r)))) kind
-
-  other_kind : (x : Operand) (k : Kind) → is_constant_kind k ≡ false → constant_or x k ≡ x
-  other_kind x (ConstantOp value) e = cc
-  other_kind x (RowOp op) e = refl
+  pub constant_operand : (j k : ℕ) (r : OpRef) (c : DialectBlock) (o : DialectOp) → slice_get g.blocks j ≡ Some c → slice_get c.ops k ≡ Some o → o.number ≡ r.0 → is_constant o ≡ true → operand_for g n (Result r) ≡ L.Constant (constant_of o.result o.kind)
+  constant_operand j k r c o at at' is constant = op_operand j k r c o at at' is ∙ constant_is (L.Result (number_of g n (Result r))) o.result o.kind constant
 
   pub result_operand : (j k : ℕ) (r : OpRef) (c : DialectBlock) (o : DialectOp) → slice_get g.blocks j ≡ Some c → slice_get c.ops k ≡ Some o → o.number ≡ r.0 → is_constant o ≡ false → operand_for g n (Result r) ≡ L.Result (number_of g n (Result r))
-  result_operand j k r c o at at' is other = op_operand j k r c o at at' is ∙ other_kind (L.Result (number_of g n (Result r))) o.kind other
+  result_operand j k r c o at at' is other = op_operand j k r c o at at' is ∙ other_is (L.Result (number_of g n (Result r))) o.result o.kind other
 
   -- ---- what an operand is: a parameter, a constant, or the result of an instruction
 
   pub data OperandIs (v : Value) (t : TypeTree) : Type 0 where
     IsParam : (i : ℕ) (b : BlockRef) → v ≡ Argument b i → b.0 ≡ form.entry.number → slice_get form.entry.args i ≡ Some t → operand_for g n v ≡ L.Parameter n.function i → OperandIs v t
-    IsConst : (j k : ℕ) (c : DialectBlock) (o : DialectOp) (value : AttrTree) → slice_get g.blocks j ≡ Some c → slice_get c.ops k ≡ Some o → v ≡ result o → o.kind ≡ ConstantOp value → o.result ≡ Some t → IsOfKind (value_type g) g o.operands o.result o.successors o.kind → operand_for g n v ≡ L.Constant (const_of value) → OperandIs v t
+    IsConst : (j k : ℕ) (c : DialectBlock) (o : DialectOp) → slice_get g.blocks j ≡ Some c → slice_get c.ops k ≡ Some o → v ≡ result o → is_constant o ≡ true → o.result ≡ Some t → operand_for g n v ≡ L.Constant (constant_of o.result o.kind) → OperandIs v t
     IsInst : (i : ℕ) → slice_get (values_by n.order g) i ≡ Some v → operand_for g n v ≡ L.Result (number_of g n v) → OperandIs v t
 
   argument_is : (b : BlockRef) (i : ℕ) (t : TypeTree) (place : ℕ) (c : DialectBlock) → slice_get g.blocks place ≡ Some c → c.number ≡ b.0 → slice_get c.args i ≡ Some t → OperandIs (Argument b i) t
@@ -180,13 +175,9 @@ module _ (g : Func) (form : IsFormFunc g) (n : Numbers) (order : IsOrder (length
       let same : Argument (record { 0 = c.number }) i ≡ Argument b i = ap (λ (m : ℕ). Argument (record { 0 = m }) i) is in
       IsInst r.0 (r.1 ∙ ap Some same) (argument_operand i b (entry_is_not g form p b.0 c at is))
 
-  constant_is : (r : OpRef) (t : TypeTree) (place k : ℕ) (c : DialectBlock) (o : DialectOp) (kind : Kind) → slice_get g.blocks place ≡ Some c → slice_get c.ops k ≡ Some o → o.number ≡ r.0 → o.result ≡ Some t → o.kind ≡ kind → is_constant_kind kind ≡ true → OperandIs (Result r) t
-  constant_is r t place k c o (ConstantOp value) at at' is type kind e =
-      IsConst place k c o value at at' (ap (λ (m : ℕ). Result (record { 0 = m })) (sym is)) kind type (op_form g form place k c o at at').kind (constant_operand place k r c o value at at' is kind)
-  constant_is r t place k c o (RowOp op) at at' is type kind e = absurd (let never : false ≡ true = e in cc)
-
   result_is : (r : OpRef) (t : TypeTree) (h : IsResultOf g form r t) → (b : Bool) → is_constant h.op ≡ b → OperandIs (Result r) t
-  result_is r t h true e = constant_is r t h.place h.at h.block h.op h.op.kind h.here h.there h.number h.type refl e
+  result_is r t h true e =
+      IsConst h.place h.at h.block h.op h.here h.there (ap (λ (m : ℕ). Result (record { 0 = m })) (sym h.number)) e h.type (constant_operand h.place h.at r h.block h.op h.here h.there h.number e)
   result_is r t h false e =
       let i = result_among g form n.order order h.place h.at h.block h.op h.here h.there e in
       IsInst i.0 (i.1 ∙ ap (λ (m : ℕ). Some (Result (record { 0 = m }))) h.number) (result_operand h.place h.at r h.block h.op h.here h.there h.number e)
@@ -197,19 +188,18 @@ module _ (g : Func) (form : IsFormFunc g) (n : Numbers) (order : IsOrder (length
 
   -- ---- operands of the form
 
-  const_short : (value : AttrTree) (k : Kind) (o : DialectOp) (t : TypeTree) → k ≡ ConstantOp value → o.result ≡ Some t → IsOfKind (value_type g) g o.operands o.result o.successors k → F.IsShortConst (const_of value) × (L.const_type (const_of value) ≡ t)
-  const_short (IntegerAttr u m) k o t kind type h =
-      let p = subst (IsOfKind (value_type g) g o.operands o.result o.successors) kind h in
-      let i = p.integer in
-      let width : width_in u ≡ i.0 = ap width_in i.1 in
-      (subst (λ (w : ℕ). IsShortWidth w × (m < 2 ^ w)) (sym width) (i.2, i.3), ap IntType width ∙ sym i.1 ∙ same_Some u t (sym p.result ∙ type))
+  const_form : (o : DialectOp) (t : TypeTree) → IsFormOp g o → is_constant o ≡ true → o.result ≡ Some t → F.IsFormConst (constant_of o.result o.kind) × (L.const_type (constant_of o.result o.kind) ≡ t)
+  const_form o t h constant type = (
+    constant_form (value_type g) g o.operands o.result o.successors o.kind constant h.kind h.result h.short,
+    constant_typed (value_type g) g o.operands o.result o.successors t o.kind constant type h.kind,
+  )
 
   operand_typed_as : (v : Value) (t : TypeTree) → value_type g v ≡ Some t → OperandIs v t → F.IsOperandOf made (operand_for g n v) × (operand_type made (operand_for g n v) ≡ t)
   operand_typed_as v t e (IsParam i b is entry type operand) = (
     subst (F.IsOperandOf made) (sym operand) (refl, (let c = params_count in let lt = slice_get_within form.entry.args i t type in omega (arith, c, lt))),
     ap (operand_type made) operand ∙ param_typed i t type,
   )
-  operand_typed_as v t e (IsConst j k c o value here at is kind type h operand) = let short = const_short value o.kind o t kind type h in (subst (F.IsOperandOf made) (sym operand) short.0, ap (operand_type made) operand ∙ short.1)
+  operand_typed_as v t e (IsConst j k c o here at is constant type operand) = let const = const_form o t (op_form g form j k c o here at) constant type in (subst (F.IsOperandOf made) (sym operand) const.0, ap (operand_type made) operand ∙ const.1)
   operand_typed_as v t e (IsInst i at operand) = (subst (F.IsOperandOf made) (sym operand) (result_there i v at), ap (operand_type made) operand ∙ result_typed i v at ∙ ap option_type e)
 
   pub operand_typed : (v : Value) (t : TypeTree) → value_type g v ≡ Some t → operand_type made (operand_for g n v) ≡ t

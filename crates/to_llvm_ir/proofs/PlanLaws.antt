@@ -7,28 +7,29 @@ use Rattle.std.proofs.lemmas.Option.{same_Some, none-some, slice_get_within, con
 use Rattle.support.proofs.ListLaws.{all_from, filter_from, filter_at}
 use Rattle.llvm_core.specs.Data as L
 use Rattle.llvm_core.specs.Data.{Operand}
-use Rattle.dialect_types.specs.Trees.{TypeTree, AttrTree, IntegerAttr}
+use Rattle.dialect_types.specs.Trees.{TypeTree}
 use Rattle.block_order.specs.Order.{IsOrder}
 use Rattle.dialect_core.specs.declared.numbers.BlockRef.{BlockRef}
 use Rattle.dialect_core.specs.declared.ops.Value.{Value}
 use Rattle.dialect_core.specs.declared.ops.Value.TheVariants.{Result, Argument}
-use Rattle.dialect_core.specs.Data.{DialectOp, DialectBlock, Func, Kind, ConstantOp, RowOp, ops_in, value_type}
+use Rattle.dialect_core.specs.Data.{DialectOp, DialectBlock, Func, Kind, ConstantOp, FilledOp, RowOp, ops_in, value_type}
 use Rattle.dialect_core.specs.Form.{IsFormFunc, is_constant, is_constant_kind}
 use Rattle.meaning.specs.Terms.{Term, Param, Unset, rename}
-use Rattle.meaning.specs.Machine.{Row, At, begin}
+use Rattle.meaning.specs.Machine.{Row, At, Action, Holds, begin}
 use Rattle.meaning.specs.Setting.{Setting}
 use Rattle.meaning.specs.Examples.{same_places}
 use Rattle.meaning.specs.Llvm as llvm
 use Rattle.meaning.specs.Llvm.{Key, ParamKey, ResultKey}
 use Rattle.meaning.specs.Dialect as dialect
-use Rattle.meaning.specs.Dialect.{same_value, attr_term}
+use Rattle.meaning.specs.Dialect.{same_value}
 use Rattle.meaning.specs.Shape as S
 use Rattle.meaning.specs.Shape.{Plan, IsPlan, IsSilent, among, AreAmong, operands_of, IsClosed, term_among}
 use Rattle.meaning.proofs.SameValues.{same_value-Decides}
 use Rattle.meaning.proofs.Fronts.{made, after_one, after, ran, others}
 use Rattle.meaning.proofs.ConstantRows.{rows, HasConstant}
 use Rattle.to_llvm_ir.specs.Exported.{result}
-use Rattle.to_llvm_ir.specs.Made.{Numbers, values_by, const_of, number_of, operand_for, function_made}
+use Rattle.to_llvm_ir.specs.Made.{Numbers, values_by, number_of, operand_for, function_made}
+use Rattle.to_llvm_ir.proofs.ConstLaws.{constant_of, constant_holds, holds_constant}
 use Rattle.to_llvm_ir.proofs.ListLaws.{AreNumbered, numbered_rest, filter_numbered}
 use Rattle.to_llvm_ir.proofs.PlaceLaws.{comes_from}
 use Rattle.to_llvm_ir.proofs.TurnLaws.{values_by_distinct, values_by_from}
@@ -47,6 +48,7 @@ constants_of g = filter is_constant (ops_in g)
 module _ (setting : Setting) (g : Func) where
   constant_silent : (done : List (Row Value)) (o : DialectOp) (k : Kind) → is_constant_kind k ≡ true → IsSilent (dialect.action setting g o k) × AreAmong done (operands_of (dialect.action setting g o k))
   constant_silent done o (ConstantOp value) e = (tt, tt)
+  constant_silent done o (FilledOp fill) e = (tt, tt)
   constant_silent done o (RowOp op) e = absurd (let never : false ≡ true = e in cc)
 
   closed : (done : List (Row Value)) (os : List DialectOp) → All (λ (o : DialectOp). is_constant o ≡ true) os → IsClosed done (rows setting g os)
@@ -68,25 +70,26 @@ module _ (setting : Setting) (g : Func) where
   among_at (x ∷ os) zero n o at e = or_left (nat_eq x.number n) (among (rows setting g os) (of_number n)) (eq-eqb x.number n (ap (λ (y : DialectOp). y.number) (same_Some x o at) ∙ e))
   among_at (x ∷ os) (suc i) n o at e = or_right (nat_eq x.number n) (among (rows setting g os) (of_number n)) (among_at os i n o at e)
 
-  held : (e : Value → Term) (o : DialectOp) (k : Kind) (value : AttrTree) → k ≡ ConstantOp value → made e (dialect.action setting g o k) ≡ attr_term setting value
-  held e o k value is = ap (λ (x : Kind). made e (dialect.action setting g o x)) is
+  -- the operation holds the term
+  abbrev HoldsTerm : DialectOp → Term → Type 0
+  HoldsTerm o t = dialect.action setting g o o.kind ≡ Holds t
 
-  after_at : (e : Value → Term) (os : List DialectOp) (i n : ℕ) (o : DialectOp) (value : AttrTree) → AreNumbered (λ (o : DialectOp). o.number) os → slice_get os i ≡ Some o → o.number ≡ n → o.kind ≡ ConstantOp value → after e (rows setting g os) (of_number n) ≡ attr_term setting value
-  after_at e [] i n o value numbered at is kind = absurd (none-some o at)
-  after_at e (x ∷ os) zero n o value numbered at is kind =
+  after_at : (e : Value → Term) (os : List DialectOp) (i n : ℕ) (o : DialectOp) (t : Term) → AreNumbered (λ (o : DialectOp). o.number) os → slice_get os i ≡ Some o → o.number ≡ n → HoldsTerm o t → after e (rows setting g os) (of_number n) ≡ t
+  after_at e [] i n o t numbered at is holds = absurd (none-some o at)
+  after_at e (x ∷ os) zero n o t numbered at is holds =
       let same : x ≡ o = same_Some x o at in
       let number : x.number ≡ n = ap (λ (y : DialectOp). y.number) same ∙ is in
       let none = among_none os (of_number n) (λ i y at'. ne_eqb y.number n (λ k. let z : suc i ≡ 0 = numbered (suc i) 0 y x at' refl (k ∙ sym number) in omega (arith, z))) in
       others (rows setting g os) (after_one e (dialect.row setting g x)) (of_number n) none
       ∙ cond-true (nat_eq x.number n) (made e (dialect.action setting g x x.kind)) (e (of_number n)) (eq-eqb x.number n number)
-      ∙ held e x x.kind value (ap (λ (y : DialectOp). y.kind) same ∙ kind)
-  after_at e (x ∷ os) (suc i) n o value numbered at is kind = after_at (after_one e (dialect.row setting g x)) os i n o value (numbered_rest (λ (o : DialectOp). o.number) x os numbered) at is kind
+      ∙ ap (made e) (ap (λ (y : DialectOp). dialect.action setting g y y.kind) same ∙ holds)
+  after_at e (x ∷ os) (suc i) n o t numbered at is holds = after_at (after_one e (dialect.row setting g x)) os i n o t (numbered_rest (λ (o : DialectOp). o.number) x os numbered) at is holds
 
-  pub term_at : (os : List DialectOp) (i n : ℕ) (o : DialectOp) (value : AttrTree) → All (λ (o : DialectOp). is_constant o ≡ true) os → AreNumbered (λ (o : DialectOp). o.number) os → slice_get os i ≡ Some o → o.number ≡ n → o.kind ≡ ConstantOp value
-      → term_among (rows setting g os) (of_number n) ≡ attr_term setting value
-  term_at os i n o value constants numbered at is kind =
+  pub term_at : (os : List DialectOp) (i n : ℕ) (o : DialectOp) (t : Term) → All (λ (o : DialectOp). is_constant o ≡ true) os → AreNumbered (λ (o : DialectOp). o.number) os → slice_get os i ≡ Some o → o.number ≡ n → HoldsTerm o t
+      → term_among (rows setting g os) (of_number n) ≡ t
+  term_at os i n o t constants numbered at is holds =
       let r = ran [] (rows setting g os) (closed [] os constants) (begin Value same_value (λ (v : Value). Unset)) in
-      ap (λ (env : Value → Term). env (of_number n)) r.env ∙ after_at (λ (v : Value). Unset) os i n o value numbered at is kind
+      ap (λ (env : Value → Term). env (of_number n)) r.env ∙ after_at (λ (v : Value). Unset) os i n o t numbered at is holds
 
 -- ---- the plan
 
@@ -108,10 +111,10 @@ module _ (setting : Setting) (g : Func) (form : IsFormFunc g) (n : Numbers) (ord
 
   -- the plan has the constant of each operation that holds one
   pub has_constant : (j k : ℕ) (c : DialectBlock) (o : DialectOp) → slice_get g.blocks j ≡ Some c → slice_get c.ops k ≡ Some o → HasConstant setting g plan o o.kind
-  has_constant j k c o at at' value kind =
+  has_constant j k c o at at' t holds =
       let among_all = op_among g.blocks j k c o at at' in
-      let i = filter_at is_constant (ops_in g) among_all.0 o among_all.1 (ap is_constant_kind kind) in
-      (among_at setting g (constants_of g) i.0 o.number o i.1 refl, term_at setting g (constants_of g) i.0 o.number o value all_constants constants_numbered i.1 refl kind)
+      let i = filter_at is_constant (ops_in g) among_all.0 o among_all.1 (holds_constant setting g o o.kind t holds) in
+      (among_at setting g (constants_of g) i.0 o.number o i.1 refl, term_at setting g (constants_of g) i.0 o.number o t all_constants constants_numbered i.1 refl holds)
 
   -- ---- what the plan says
 
@@ -217,9 +220,6 @@ module _ (setting : Setting) (g : Func) (form : IsFormFunc g) (n : Numbers) (ord
 
   -- ---- operands
 
-  constant_same : (back : Setting) (value : AttrTree) → rename same_places (llvm.const_term back (const_of value)) ≡ attr_term setting value
-  constant_same back (IntegerAttr t m) = refl
-
   stands_as : (back : Setting) (given : Value → List (Operand × ℕ)) (v : Value) (t : TypeTree) → OperandIs g form n order given v t → S.StandsFor same_places plan (llvm.operand back (operand_for g n v)) (At v)
   stands_as back given v t (IsParam i b is entry type operand) =
       let lt = slice_get_within form.entry.args i t type in
@@ -227,10 +227,10 @@ module _ (setting : Setting) (g : Func) (form : IsFormFunc g) (n : Numbers) (ord
       (cond-true (nat_eq n.function n.function && nat_lt i (length form.entry.args)) (Some (Argument (record { 0 = form.entry.number }) i)) None
       (and_from (nat_eq n.function n.function) (nat_lt i (length form.entry.args)) (eq-eqb n.function n.function refl) (lt-ltb i (length form.entry.args) lt))
       ∙ ap (λ (m : ℕ). Some (Argument (record { 0 = m }) i)) (sym entry) ∙ ap Some (sym is))
-  stands_as back given v t (IsConst j k c o value here at is kind type h operand) =
-      let held = has_constant j k c o here at value kind in
+  stands_as back given v t (IsConst j k c o here at is constant type operand) =
+      let held = has_constant j k c o here at (rename same_places (llvm.const_term back (constant_of o.result o.kind))) (constant_holds setting back g o o.kind constant) in
       subst (λ (o : Operand). S.StandsFor same_places plan (llvm.operand back o) (At v)) (sym operand)
-      (subst (λ (w : Value). S.StandsFor same_places plan (llvm.operand back (L.Constant (const_of value))) (At w)) (sym is) (held.0, constant_same back value ∙ sym held.1))
+      (subst (λ (w : Value). S.StandsFor same_places plan (llvm.operand back (L.Constant (constant_of o.result o.kind))) (At w)) (sym is) (held.0, sym held.1))
   stands_as back given v t (IsInst i at operand) = subst (λ (o : Operand). S.StandsFor same_places plan (llvm.operand back o) (At v)) (sym operand) (value_at i v at)
 
   pub stands : (back : Setting) (v : Value) (t : TypeTree) → value_type g v ≡ Some t → S.StandsFor same_places plan (llvm.operand back (operand_for g n v)) (At v)

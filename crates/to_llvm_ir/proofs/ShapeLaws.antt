@@ -12,7 +12,7 @@ use Rattle.dialect_core.specs.declared.numbers.BlockRef.{BlockRef}
 use Rattle.dialect_core.specs.declared.ops.Value.{Value}
 use Rattle.dialect_core.specs.declared.ops.Value.TheVariants.{Argument}
 use Rattle.dialect_core.specs.declared.ops.Successor.{Successor}
-use Rattle.dialect_core.specs.Data.{DialectOp, DialectBlock, Func, Kind, ConstantOp, RowOp, value_type}
+use Rattle.dialect_core.specs.Data.{DialectOp, DialectBlock, Func, Kind, ConstantOp, FilledOp, RowOp, value_type}
 use Rattle.dialect_core.specs.Form.{IsFormFunc, IsHeldValue, FitsTarget, is_constant, is_constant_kind, others_of, edges_of}
 use Rattle.meaning.specs.Terms.{rename_type}
 use Rattle.meaning.specs.Machine.{Row, Action, At, Operand as MachineOperand, Block as MachineBlock}
@@ -82,6 +82,7 @@ module _ (back setting : Setting) (g : Func) (form : IsFormFunc g) (n : Numbers)
   actions : (k : ℕ) (o : DialectOp) (kind : Kind) → is_constant_kind kind ≡ false → All (IsHeldValue g) o.operands
       → (a : Action Key) × (llvm.row back made (inst g n k o) (instruction_for g n kind o.result o.operands o.successors) ≡ Some (record { action = a; result = ResultKey (inst g n k o).number })) × SameAction same_places (plan setting g form n order) a (dialect.action setting g o kind)
   actions k o (ConstantOp value) other h = absurd (let e : true ≡ false = other in cc)
+  actions k o (FilledOp fill) other h = absurd (let e : true ≡ false = other in cc)
   actions k o (RowOp op) other h = (_, refl, (refl, type_stays (option_type o.result), types_alike o.operands h, values_stand o.operands h))
 
   row_pair : (j i k : ℕ) (c : DialectBlock) (o : DialectOp) → slice_get g.blocks j ≡ Some c → slice_get c.ops i ≡ Some o → is_constant o ≡ false → IsPaired k o

@@ -4,22 +4,21 @@ use Rattle.std.specs.Option.{option_map}
 use Rattle.std.proofs.lemmas.Bool.{cond-true, cond-false}
 use Rattle.std.proofs.lemmas.List.{append-nil, map_push, map-append}
 use Rattle.std.proofs.lemmas.List.Elements.{filter-append}
-use Rattle.llvm_core.specs.declared.numbers.LLVMType.{LLVMType}
 use Rattle.llvm_core.specs.declared.numbers.LLVMConst.{LLVMConst}
 use Rattle.llvm_core.specs.declared.numbers.LLVMBasicBlock.{LLVMBasicBlock}
 use Rattle.llvm_core.specs.declared.numbers.LLVMInstRef.{LLVMInstRef}
 use Rattle.llvm_core.specs.declared.types.ResultType.{ResultType}
-use Rattle.llvm_core.specs.declared.consts.LLVMConstKind.TheVariants as C
+use Rattle.llvm_core.specs.declared.consts.LLVMConstKind.{LLVMConstKind}
 use Rattle.llvm_core.specs.declared.code.LLVMValue.TheVariants as V
 use Rattle.llvm_core.specs.declared.code.LLVMInst.{LLVMInst}
 use Rattle.support.specs.Interned.{Interned}
 use Rattle.llvm_core.specs.Module.{Module}
 use Rattle.llvm_core.specs.Sound.{IsModule}
-use Rattle.llvm_core.specs.Parts.{result_type}
+use Rattle.llvm_core.specs.Parts.{const_type, result_type}
 use Rattle.llvm_core.specs.Data as L
-use Rattle.llvm_core.specs.Data.{Placed, ModuleData, IntConst, const_at, trees_of, instruction_of, result_tree, data_of, with_function, with_instruction}
-use Rattle.llvm_core.proofs.DataLemmas.{int_const_of}
-use Rattle.dialect_types.specs.Trees.{TypeTree, IntegerAttr}
+use Rattle.llvm_core.specs.Data.{Placed, ModuleData, const_at, const_tree, trees_of, instruction_of, result_tree, data_of, with_function, with_instruction}
+use Rattle.llvm_core.proofs.DataLemmas.{const_tree_of}
+use Rattle.dialect_types.specs.Trees.{TypeTree}
 use Rattle.block_order.specs.Order.{IsOrder}
 use Rattle.dialect_core.specs.declared.numbers.OpRef.{OpRef}
 use Rattle.dialect_core.specs.declared.ops.Value.{Value}
@@ -27,13 +26,12 @@ use Rattle.dialect_core.specs.declared.ops.Value.TheVariants.{Result}
 use Rattle.dialect_core.specs.ContextData.{ContextData}
 use Rattle.dialect_core.specs.Data.{DialectOp, DialectBlock, Func}
 use Rattle.dialect_core.specs.Form.{IsFormFunc, is_constant, others_of}
-use Rattle.kinds.specs.Held.{width_in}
 use Rattle.meaning.specs.Dialect.{option_type}
 use Rattle.to_llvm_ir.specs.declared.values.Values.{Values}
 use Rattle.to_llvm_ir.specs.Order.{turn_of}
 use Rattle.to_llvm_ir.specs.Exported.{result_name, result, arguments_of, phi_values}
 use Rattle.to_llvm_ir.specs.Made.{Numbers, result_values, values_by, number_of, inst, insts, block_phis, function_with, no_entries, number_after, number_behind}
-use Rattle.to_llvm_ir.specs.Growth.{Grows, IsTypeOf, HasType}
+use Rattle.to_llvm_ir.specs.Growth.{Grows, HasType}
 use Rattle.to_llvm_ir.specs.States.{found, AreKnown, Spot, IsNext, IsMade, IsBehindSpot, blocks_within, seen_to, values_to, turn, first_at}
 use Rattle.to_llvm_ir.proofs.ListLaws.{take_suc, split_at, at_middle}
 use Rattle.to_llvm_ir.proofs.TurnLaws.{by_split}
@@ -41,7 +39,9 @@ use Rattle.to_llvm_ir.proofs.PlacedLaws.{number_at, constant_operand, result_ope
 use Rattle.to_llvm_ir.proofs.FormLaws.{insts_push}
 use Rattle.to_llvm_ir.proofs.GrowthLaws.{grows_const, grows_then, type_kept}
 use Rattle.to_llvm_ir.proofs.BuildLaws.{IsBuilt, grows_built, built_blocks, built_insts, built_type, data_within}
-use Rattle.to_llvm_ir.proofs.OpLaws.{ConstantParts, spot_type, spot_parts}
+use Rattle.to_llvm_ir.proofs.ConstLaws.{constant_of}
+use Rattle.to_llvm_ir.proofs.ConstOpLaws.{IsConstFor}
+use Rattle.to_llvm_ir.proofs.OpLaws.{spot_type, spot_parts}
 use Rattle.to_llvm_ir.proofs.KnownLaws.{known_set, known_void}
 use Rattle.to_llvm_ir.proofs.ValueLaws.{IsSet}
 
@@ -191,29 +191,30 @@ module _ (c : ContextData) (op : OpRef) (s : Spot) (values' : Values) (m : Modul
 
   -- ---- constants
 
-  pub constant_done : (type : TypeTree) (value from : ℕ) (ty : LLVMType) (k : LLVMConst) (m1 m2 : Module) (values'' : Values) → ConstantParts s.op type value → IsTypeOf m1 ty type → Grows m m1 → m1 ≡ record m { types = m1.types } → data_of m1 ≡ data_of m → from ≡ value
-      → Interned m1.consts m2.consts (C.Int ty from) k.0 → m2 ≡ record m1 { consts = m2.consts } → data_of m2 ≡ data_of m1 → IsModule m2
+  pub constant_done : (type : TypeTree) (kind : LLVMConstKind) (k : LLVMConst) (m1 m2 : Module) (values'' : Values) → IsConstFor s.op type m1 kind → Grows m m1 → m1 ≡ record m { types = m1.types } → data_of m1 ≡ data_of m
+      → Interned m1.consts m2.consts kind k.0 → m2 ≡ record m1 { consts = m2.consts } → data_of m2 ≡ data_of m1 → IsModule m2
       → values''.next ≡ values'.next + 1 → IsSet (found values') (found values'') (Result op) (V.Const k) → IsBehindSpot s values'' m2
-  constant_done type value from ty k m1 m2 values'' parts ty_is g1 rest1 data1 from_is interned rest2 data2 sound counted set =
-      let g2 = grows_const m1 m2 (C.Int ty from) k.0 interned rest2 in
+  constant_done type kind k m1 m2 values'' const g1 rest1 data1 interned rest2 data2 sound counted set =
+      let g2 = grows_const m1 m2 kind k.0 interned rest2 in
       let grows = grows_then m m1 m2 g1 g2 in
-      let ty2 = type_kept m1 m2 ty type g2 ty_is in
-      let tree : const_at (trees_of m2).consts k ≡ IntConst (width_in type) value = int_const_of m2 k ty from interned.here ∙ (let e = ty2.1 in cc) in
+      let ty2 = type_kept m1 m2 (const_type kind) type g2 const.typed in
+      let tree : const_at (trees_of m2).consts k ≡ constant_of s.op.result s.op.kind =
+      const_tree_of m2 k kind interned.here ∙ ap (λ (x : Module). const_tree (trees_of x).types (trees_of m2).consts kind) rest2 ∙ const.tree (trees_of m2).consts in
       let key : Result op ≡ result s.op = ap (λ (i : ℕ). Result (record { 0 = i })) (sym (spot_parts c op s next.spot).number) in
-      let operand = constant_operand g next.spot.task.form n next.spot.task.order.once no_entries s.place s.at (record { 0 = s.op.number }) s.block s.op (IntegerAttr type value) next.spot.here next.spot.there refl parts.kind in
+      let operand = constant_operand g next.spot.task.form n next.spot.task.order.once no_entries s.place s.at (record { 0 = s.op.number }) s.block s.op next.spot.here next.spot.there refl const.constant in
       record {
         is = data2 ∙ data1 ∙ next.state.is
-            ∙ ap (λ (qs : List Placed). with_function s.task.before (function_with g n (blocks_within s.task s.place (block_phis g n no_entries s.place (first_at g s.place) s.block ++ qs)))) (sym (ap (insts g n first) ops_more ∙ insts_skip g n first ops s.op parts.constant));
+            ∙ ap (λ (qs : List Placed). with_function s.task.before (function_with g n (blocks_within s.task s.place (block_phis g n no_entries s.place (first_at g s.place) s.block ++ qs)))) (sym (ap (insts g n first) ops_more ∙ insts_skip g n first ops s.op const.constant));
         sound = sound;
         block_count = ap (λ (x : Module). length x.blocks) rest2 ∙ ap (λ (x : Module). length x.blocks) rest1 ∙ next.state.block_count;
         inst_count = ap (λ (x : Module). length x.insts) rest2 ∙ ap (λ (x : Module). length x.insts) rest1 ∙ next.state.inst_count
-            ∙ ap (λ (vs : List Value). n.inst + length (values_to s.task (turn s.task s.place) ++ (phi_values s.place s.block ++ vs))) (sym (ap result_values ops_more ∙ results_append ops (s.op ∷ []) ∙ ap (λ (vs : List Value). result_values ops ++ vs) (results_constant s.op [] parts.constant) ∙ append-nil (result_values ops)));
-        next = counted ∙ ap (λ (i : ℕ). i + 1) next.state.next ∙ sym (next_more ∙ ap (λ (o : Option TypeTree). number_after o (number_behind first ops)) parts.result);
+            ∙ ap (λ (vs : List Value). n.inst + length (values_to s.task (turn s.task s.place) ++ (phi_values s.place s.block ++ vs))) (sym (ap result_values ops_more ∙ results_append ops (s.op ∷ []) ∙ ap (λ (vs : List Value). result_values ops ++ vs) (results_constant s.op [] const.constant) ∙ append-nil (result_values ops)));
+        next = counted ∙ ap (λ (i : ℕ). i + 1) next.state.next ∙ sym (next_more ∙ ap (λ (o : Option TypeTree). number_after o (number_behind first ops)) const.result);
         known = subst (λ (vs : List Value). AreKnown g n vs values'' m2) (sym seen_more)
-            (known_set g n (seen_to s.task (turn s.task s.place) ++ (arguments_of s.block ++ map result ops)) values' values'' m m2 (result s.op) (V.Const k) type next.state.sound grows (spot_type c op s next.spot ∙ parts.result)
+            (known_set g n (seen_to s.task (turn s.task s.place) ++ (arguments_of s.block ++ map result ops)) values' values'' m m2 (result s.op) (V.Const k) type next.state.sound grows (spot_type c op s next.spot ∙ const.result)
             (subst (λ (v : Value). IsSet (found values') (found values'') v (V.Const k)) key set)
             (record {
-              typed = (ty, ap (option_map _) interned.here, ty2.1);
+              typed = (const_type kind, ap (option_map const_type) interned.here, ty2.1);
               stands = ap L.Constant tree ∙ sym operand;
               phi = λ i e a. absurd a;
             }) next.state.known);

@@ -20,7 +20,7 @@ use Rattle.kinds.specs.Rules.{ends, target_count}
 use Rattle.kinds.specs.Table.{rule_of}
 use Rattle.kinds.specs.declared.rules.Leads.{Leads}
 use Rattle.kinds.specs.declared.rules.Leads.TheVariants as L
-use Rattle.dialect_core.specs.Data.{Kind, ConstantOp, RowOp, DialectOp, DialectBlock, Func, value_type}
+use Rattle.dialect_core.specs.Data.{Kind, ConstantOp, FilledOp, RowOp, DialectOp, DialectBlock, Func, value_type}
 use Rattle.dialect_core.specs.Rules.{IsOfKind}
 use Rattle.dialect_core.specs.Form.{IsFormFunc, is_terminator, is_terminator_kind, edges_of}
 use Rattle.to_llvm_ir.specs.declared.to_llvm_err.ToLLVMErr.TheVariants as E
@@ -39,6 +39,7 @@ use Rattle.kinds.proofs.TableLaws.{leads_few}
 
 pub few : (g : Func) (vs : List Value) (own : Option TypeTree) (ss : List Successor) (k : Kind) → IsOfKind (value_type g) g vs own ss k → length ss < 3
 few g vs own ss (ConstantOp (IntegerAttr t v)) h = rw h.ends_here (omega arith)
+few g vs own ss (FilledOp fill) h = rw h.ends_here (omega arith)
 few g vs own ss (RowOp op) h = let e = h.leads.0 in let f = leads_few op in omega (arith, e, f)
 
 -- an operation has two edges at most
@@ -58,6 +59,7 @@ goes_on (L.To n) e = cc
 
 silent_kind : (g : Func) (vs : List Value) (own : Option TypeTree) (ss : List Successor) (k : Kind) → is_terminator_kind k ≡ false → IsOfKind (value_type g) g vs own ss k → ss ≡ []
 silent_kind g vs own ss (ConstantOp (IntegerAttr t v)) e h = h.ends_here
+silent_kind g vs own ss (FilledOp fill) e h = h.ends_here
 silent_kind g vs own ss (RowOp op) e h = none_of ss (h.leads.0 ∙ goes_on (rule_of op).leads e)
 
 abbrev pub all_edges : List DialectOp → List Successor

@@ -3,7 +3,7 @@ use Rattle.std.specs.Prelude.{◌+◌, ℕ, zero, suc, Bool, false, nat_eq, if�
 use Rattle.std.specs.List.{flat_map, find}
 use Rattle.std.specs.Option.{option_map_or}
 use Rattle.llvm_core.specs.Data as L
-use Rattle.llvm_core.specs.Data.{ConstTree, IntConst, Operand, Parameter, Constant, RowData, Instruction, Placed}
+use Rattle.llvm_core.specs.Data.{ConstTree, IntConst, filled_const, Operand, Parameter, Constant, RowData, Instruction, Placed}
 use Rattle.dialect_types.specs.Trees.{TypeTree, AttrTree, IntegerAttr}
 use Rattle.dialect_core.specs.declared.numbers.BlockRef.{BlockRef}
 use Rattle.dialect_core.specs.declared.ops.Value.{Value}
@@ -12,7 +12,7 @@ use Rattle.dialect_core.specs.declared.ops.Successor.{Successor}
 use Rattle.kinds.specs.declared.op.Op.{Op}
 use Rattle.kinds.specs.Table.{rule_of}
 use Rattle.kinds.specs.Typing.{written_for}
-use Rattle.dialect_core.specs.Data.{DialectOp, DialectBlock, Func, llvm_name_of, Kind, ConstantOp, RowOp, ops_in}
+use Rattle.dialect_core.specs.Data.{DialectOp, DialectBlock, Func, llvm_name_of, Kind, ConstantOp, FilledOp, RowOp, ops_in}
 use Rattle.dialect_core.specs.Form.{is_constant, others_of, edges_of}
 use Rattle.kinds.specs.Held.{width_in}
 use Rattle.meaning.specs.Dialect.{option_type, place_of}
@@ -64,10 +64,11 @@ values_by order g = flat_map (block_values g) order
 abbrev pub const_of : AttrTree → ConstTree
 const_of (IntegerAttr type value) = IntConst (width_in type) value
 
--- the constant where there is one, else the other operand
-abbrev pub constant_or : Operand → Kind → Operand
-constant_or x (ConstantOp value) = Constant (const_of value)
-constant_or x (RowOp op) = x
+-- the constant of a constant operation, with a result of that type; for any other operation the other operand
+abbrev pub constant_or : Operand → (result : Option TypeTree) → Kind → Operand
+constant_or x own (ConstantOp value) = Constant (const_of value)
+constant_or x own (FilledOp fill) = Constant (filled_const fill (option_type own))
+constant_or x own (RowOp op) = x
 
 abbrev pub is_entry : Func → ℕ → Bool
 is_entry g b = option_map_or (λ (c : DialectBlock). nat_eq c.number b) (slice_get g.blocks 0) false
@@ -80,7 +81,7 @@ module _ (g : Func) (n : Numbers) where
   -- what an operand becomes
   abbrev pub operand_for : Value → Operand
   operand_for (Argument b i) = if is_entry g b.0 then Parameter n.function i else L.Result (number_of (Argument b i))
-  operand_for (Result r) = option_map_or (λ (o : DialectOp). constant_or (L.Result (number_of (Result r))) o.kind) (find (λ (o : DialectOp). nat_eq o.number r.0) (ops_in g)) (L.Result (number_of (Result r)))
+  operand_for (Result r) = option_map_or (λ (o : DialectOp). constant_or (L.Result (number_of (Result r))) o.result o.kind) (find (λ (o : DialectOp). nat_eq o.number r.0) (ops_in g)) (L.Result (number_of (Result r)))
 
   -- the number of what the block of a number becomes
   abbrev pub block_for : ℕ → ℕ
@@ -100,6 +101,7 @@ module _ (g : Func) (n : Numbers) where
   -- a constant becomes no instruction
   abbrev pub instruction_for : Kind → Option TypeTree → List Value → List Successor → Instruction
   instruction_for (ConstantOp value) own vs ss = L.Phi []
+  instruction_for (FilledOp fill) own vs ss = L.Phi []
   instruction_for (RowOp op) own vs ss = L.Applied (row_for op own vs ss)
 
   -- the instruction that an operation becomes, where the next value has the number k

@@ -32,6 +32,7 @@ use dialect_core::numbers::OpRef;
 use dialect_core::ops::{OpKind, Successor, Value};
 use dialect_types::attrs::ConstAttr;
 use dialect_types::types::TypeHandle;
+use kinds::fill::Fill;
 use kinds::op::Op;
 use kinds::rules::Gives;
 use llvm_core::code::{LLVMInst, LLVMValue, Row};
@@ -133,7 +134,7 @@ fn parts_of(value: &ConstAttr) -> (TypeHandle, u64)
     }
 }
 
-/// A constant of LLVM for a constant.
+/// A constant of LLVM for a constant that an attribute says.
 fn convert_constant(
     alloc: Global,
     ctx: &Context,
@@ -151,6 +152,30 @@ fn convert_constant(
     let (ty, number) = parts_of(value);
     let ty = value_type(alloc, ctx, ty, guesses, back)?;
     let c = back.const_get(LLVMConstKind::Int(ty, u128::from(number)))?;
+    values.set(Value::Result(op), LLVMValue::Const(c))
+}
+
+/// Zero, undef or poison of LLVM, of the type of the result, for an operation that makes it.
+fn convert_filled(
+    alloc: Global,
+    ctx: &Context,
+    op: OpRef,
+    fill: Fill,
+    guesses: &mut Guesses,
+    values: &mut Values,
+    back: &mut LLVMModule,
+) -> Result<(), AllocError>
+    requires typed { IsTyped ctx.now }
+    requires within { op.0 < length ctx.now.ops }
+    requires kind { kind_at ctx.now.ops op ≡ Some (kinds.Filled fill) }
+    requires spot { (s : Spot) × IsNext ctx.now op s values.old back.old }
+    ensures { (s : Spot) → IsNext ctx.now op s values.old back.old → OnOk result (IsBehindSpot s values.new back.new) }
+{
+    let Some(ty) = ctx.result_type(op) else {
+        unreachable!();
+    };
+    let ty = value_type(alloc, ctx, ty, guesses, back)?;
+    let c = back.const_get(LLVMConstKind::Filled(fill, ty))?;
     values.set(Value::Result(op), LLVMValue::Const(c))
 }
 
@@ -325,6 +350,10 @@ fn convert_op(
         OpKind::Module | OpKind::Func => Ok(()),
         OpKind::Constant(value) => {
             convert_constant(alloc, ctx, op, value, guesses, values, back)?;
+            Ok(())
+        }
+        OpKind::Filled(fill) => {
+            convert_filled(alloc, ctx, op, *fill, guesses, values, back)?;
             Ok(())
         }
         OpKind::Row(held) => {

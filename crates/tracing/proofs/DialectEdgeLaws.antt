@@ -1,8 +1,9 @@
 -- The edges of a function of the dialect, by the places of its blocks.
-use Rattle.std.proofs.Common.{◌≡◌, ◌+◌, ℕ, zero, suc, Bool, List, [], ◌∷◌, Option, Some, None, map, slice_get, nat_eq, length, refl, sym, ap, subst, ◌∙◌, arith}
+use Rattle.std.proofs.Common.{◌≡◌, ◌+◌, ℕ, zero, suc, Bool, List, [], ◌∷◌, Option, Some, None, map, slice_get, nat_eq, length, All, refl, sym, ap, subst, ◌∙◌, arith}
 use Rattle.std.specs.List.{find, flat_map, position_or_len}
 use Rattle.std.specs.Option.{option_map, option_map_or}
 use Rattle.std.proofs.lemmas.List.Folds.{find_at}
+use Rattle.std.proofs.lemmas.List.Elements.{All-nil, All-cons}
 use Rattle.std.proofs.lemmas.Option.{slice_get-map}
 use Rattle.dialect_core.specs.declared.numbers.BlockRef.{BlockRef}
 use Rattle.dialect_core.specs.declared.ops.Value.{Value}
@@ -16,8 +17,9 @@ use Rattle.meaning.specs.Dialect.{argument_moves, typed_row, edge, typed_block}
 use Rattle.tracing.specs.declared.body.Slot.{Slot}
 use Rattle.tracing.specs.declared.body.Slot.TheVariants.{Input}
 use Rattle.tracing.specs.declared.body.Source.{Source}
+use Rattle.tracing.specs.declared.body.Edge.{Edge}
 use Rattle.tracing.specs.declared.body.Block as B
-use Rattle.tracing.specs.Bodies.{given, moves_from, params_at, row_of, edge_of, block_of}
+use Rattle.tracing.specs.Bodies.{given, moves_from, params_at, row_of, edge_of, block_of, IsTypedGiven, IsTypedEdge}
 use Rattle.tracing.specs.Renamed.{renamed_row, renamed_move, renamed_edge, renamed_block}
 use Rattle.tracing.specs.DialectBodies.{slot_of, InContext, rows_of}
 use Rattle.tracing.specs.DialectEdges.{inputs_from, inputs_of, params_of, numbers_of, handed, edge_to}
@@ -31,24 +33,24 @@ use Rattle.tracing.proofs.DialectLaws.{found}
 abbrev Move : Type 0
 Move = Slot × Option (M.Operand Slot)
 
-nothing : (k : ℕ) → given [] k ≡ None
-nothing k = refl
+nothing : (trees : List TypeTree) (k : ℕ) → given trees [] k ≡ None
+nothing trees k = refl
 
 -- the arguments from a place on, where what stands from that place on is what is handed over for values
-pub moves_by : (b : BlockRef) (n i : ℕ) (vs : List Value) (sources : List (Option Source)) → ((k : ℕ) → given sources (i + k) ≡ given (map handed vs) k) → moves_from i (inputs_from b.0 i n) sources ≡ map (renamed_move slot_of) (argument_moves b i n vs)
-moves_by b zero i vs sources h = refl
-moves_by b (suc n) i [] sources h =
+pub moves_by : (trees : List TypeTree) (b : BlockRef) (n i : ℕ) (vs : List Value) (sources : List (Option Source)) → ((k : ℕ) → given trees sources (i + k) ≡ given trees (map handed vs) k) → moves_from trees i (inputs_from b.0 i n) sources ≡ map (renamed_move slot_of) (argument_moves b i n vs)
+moves_by trees b zero i vs sources h = refl
+moves_by trees b (suc n) i [] sources h =
     let first : i + 0 ≡ i = omega arith in
-    let here : given sources i ≡ None = subst (λ (j : ℕ). given sources j ≡ None) first (h 0 ∙ nothing 0) in
-    let rest = moves_by b n (suc i) [] sources (λ k. let next : i + suc k ≡ suc i + k = omega arith in subst (λ (j : ℕ). given sources j ≡ given [] k) next (h (suc k) ∙ nothing (suc k) ∙ sym (nothing k))) in
-    ap (λ (o : Option (M.Operand Slot)). let m : Move = (Input b.0 i, o) in m ∷ moves_from (suc i) (inputs_from b.0 (suc i) n) sources) here
+    let here : given trees sources i ≡ None = subst (λ (j : ℕ). given trees sources j ≡ None) first (h 0 ∙ nothing trees 0) in
+    let rest = moves_by trees b n (suc i) [] sources (λ k. let next : i + suc k ≡ suc i + k = omega arith in subst (λ (j : ℕ). given trees sources j ≡ given trees [] k) next (h (suc k) ∙ nothing trees (suc k) ∙ sym (nothing trees k))) in
+    ap (λ (o : Option (M.Operand Slot)). let m : Move = (Input b.0 i, o) in m ∷ moves_from trees (suc i) (inputs_from b.0 (suc i) n) sources) here
     ∙ ap (λ (l : List Move). let m : Move = (Input b.0 i, None) in m ∷ l) rest
-moves_by b (suc n) i (v ∷ vs) sources h =
+moves_by trees b (suc n) i (v ∷ vs) sources h =
     let first : i + 0 ≡ i = omega arith in
     let o : Option (M.Operand Slot) = Some (M.At (slot_of v)) in
-    let here : given sources i ≡ o = subst (λ (j : ℕ). given sources j ≡ o) first (h 0) in
-    let rest = moves_by b n (suc i) vs sources (λ k. let next : i + suc k ≡ suc i + k = omega arith in subst (λ (j : ℕ). given sources j ≡ given (map handed vs) k) next (h (suc k))) in
-    ap (λ (p : Option (M.Operand Slot)). let m : Move = (Input b.0 i, p) in m ∷ moves_from (suc i) (inputs_from b.0 (suc i) n) sources) here
+    let here : given trees sources i ≡ o = subst (λ (j : ℕ). given trees sources j ≡ o) first (h 0) in
+    let rest = moves_by trees b n (suc i) vs sources (λ k. let next : i + suc k ≡ suc i + k = omega arith in subst (λ (j : ℕ). given trees sources j ≡ given trees (map handed vs) k) next (h (suc k))) in
+    ap (λ (p : Option (M.Operand Slot)). let m : Move = (Input b.0 i, p) in m ∷ moves_from trees (suc i) (inputs_from b.0 (suc i) n) sources) here
     ∙ ap (λ (l : List Move). let m : Move = (Input b.0 i, o) in m ∷ l) rest
 
 -- ---- an edge
@@ -57,7 +59,7 @@ moves_by b (suc n) i (v ∷ vs) sources h =
 found_number : (ys : List DialectBlock) (n : ℕ) (y : DialectBlock) → find (λ (z : DialectBlock). nat_eq z.number n) ys ≡ Some y → y.number ≡ n
 found_number ys n y e = (found (λ (z : DialectBlock). Unit {0}) (λ (z : DialectBlock). z.number) ys n y e (λ k d lt. tt)).is
 
-module _ (g : Func) (s : Successor) where
+module _ (trees : List TypeTree) (g : Func) (s : Successor) where
   abbrev there : DialectBlock → Bool
   there y = nat_eq y.number s.block.0
 
@@ -65,28 +67,40 @@ module _ (g : Func) (s : Successor) where
   place = position_or_len there g.blocks
 
   moves_to : (o : Option DialectBlock) → find there g.blocks ≡ o
-      → moves_from 0 (option_map_or (λ (ps : List Slot). ps) (option_map inputs_of o) []) (map handed s.args) ≡ map (renamed_move slot_of) (option_map_or (λ (y : DialectBlock). argument_moves s.block 0 (length y.args) s.args) o [])
+      → moves_from trees 0 (option_map_or (λ (ps : List Slot). ps) (option_map inputs_of o) []) (map handed s.args) ≡ map (renamed_move slot_of) (option_map_or (λ (y : DialectBlock). argument_moves s.block 0 (length y.args) s.args) o [])
   moves_to None e = refl
   moves_to (Some y) e =
-      ap (λ (n : ℕ). moves_from 0 (inputs_from n 0 (length y.args)) (map handed s.args)) (found_number g.blocks s.block.0 y e)
-      ∙ moves_by s.block (length y.args) 0 s.args (map handed s.args) (λ k. let e : 0 + k ≡ k = omega arith in ap (given (map handed s.args)) e)
+      ap (λ (n : ℕ). moves_from trees 0 (inputs_from n 0 (length y.args)) (map handed s.args)) (found_number g.blocks s.block.0 y e)
+      ∙ moves_by trees s.block (length y.args) 0 s.args (map handed s.args) (λ k. let e : 0 + k ≡ k = omega arith in ap (given trees (map handed s.args)) e)
 
-  edge_at : (n : ℕ) → n ≡ place → edge_of (params_of g) (record { to = n; sources = map handed s.args }) ≡ renamed_edge slot_of (edge g s)
+  edge_at : (n : ℕ) → n ≡ place → edge_of trees (params_of g) (record { to = n; sources = map handed s.args }) ≡ renamed_edge slot_of (edge g s)
   edge_at n e =
       let bs = g.blocks in
-      let moves : moves_from 0 (params_at (params_of g) n) (map handed s.args) ≡ map (renamed_move slot_of) (edge g s).moves =
-      ap (λ (o : Option (List Slot)). moves_from 0 (option_map_or (λ (ps : List Slot). ps) o []) (map handed s.args)) (slice_get-map inputs_of bs n)
-      ∙ ap (λ (o : Option DialectBlock). moves_from 0 (option_map_or (λ (ps : List Slot). ps) (option_map inputs_of o) []) (map handed s.args)) (ap (slice_get bs) e ∙ sym (find_at there bs))
+      let moves : moves_from trees 0 (params_at (params_of g) n) (map handed s.args) ≡ map (renamed_move slot_of) (edge g s).moves =
+      ap (λ (o : Option (List Slot)). moves_from trees 0 (option_map_or (λ (ps : List Slot). ps) o []) (map handed s.args)) (slice_get-map inputs_of bs n)
+      ∙ ap (λ (o : Option DialectBlock). moves_from trees 0 (option_map_or (λ (ps : List Slot). ps) (option_map inputs_of o) []) (map handed s.args)) (ap (slice_get bs) e ∙ sym (find_at there bs))
       ∙ moves_to (find there bs) refl in
       let leads : n ≡ (edge g s).to = e ∙ sym (place_is there bs) in
       λ i. record { to = leads i; moves = moves i }
 
-  edge_is : (numbers : List ℕ) → numbers ≡ numbers_of g → edge_of (params_of g) (edge_to numbers s) ≡ renamed_edge slot_of (edge g s)
+  edge_is : (numbers : List ℕ) → numbers ≡ numbers_of g → edge_of trees (params_of g) (edge_to numbers s) ≡ renamed_edge slot_of (edge g s)
   edge_is numbers are = edge_at (position_or_len (nat_eq s.block.0) numbers) (ap (position_or_len (nat_eq s.block.0)) are ∙ place_by_number (λ (y : DialectBlock). y.number) s.block.0 g.blocks)
 
-edges_are : (g : Func) (numbers : List ℕ) → numbers ≡ numbers_of g → (ss : List Successor) → map (edge_of (params_of g)) (map (edge_to numbers) ss) ≡ map (renamed_edge slot_of) (map (edge g) ss)
-edges_are g numbers are [] = refl
-edges_are g numbers are (s ∷ ss) = let e = edge_is g s numbers are in let rest = edges_are g numbers are ss in cc
+edges_are : (trees : List TypeTree) (g : Func) (numbers : List ℕ) → numbers ≡ numbers_of g → (ss : List Successor) → map (edge_of trees (params_of g)) (map (edge_to numbers) ss) ≡ map (renamed_edge slot_of) (map (edge g) ss)
+edges_are trees g numbers are [] = refl
+edges_are trees g numbers are (s ∷ ss) = let e = edge_is trees g s numbers are in let rest = edges_are trees g numbers are ss in cc
+
+-- what an edge hands over is no constant
+handed_typed : (n : ℕ) (vs : List Value) → All (IsTypedGiven n) (map handed vs)
+handed_typed n [] = All-nil (IsTypedGiven n)
+handed_typed n (v ∷ vs) = All-cons (IsTypedGiven n) (handed v) (map handed vs) tt (handed_typed n vs)
+
+pub edges_typed : (n : ℕ) (numbers : List ℕ) (ss : List Successor) (es : List Edge) → es ≡ map (edge_to numbers) ss → All (IsTypedEdge n) es
+edges_typed n numbers ss es are = subst (All (IsTypedEdge n)) (sym are) (each ss)
+  where
+    each : (ss : List Successor) → All (IsTypedEdge n) (map (edge_to numbers) ss)
+    each [] = All-nil (IsTypedEdge n)
+    each (s ∷ ss) = All-cons (IsTypedEdge n) (edge_to numbers s) (map (edge_to numbers) ss) (handed_typed n s.args) (each ss)
 
 -- ---- a block
 
@@ -96,5 +110,5 @@ block_is trees setting c h r y numbers are rows edges =
     let g = h.function in
     let ss = flat_map (λ (o : DialectOp). o.successors) y.ops in
     let all_rows = rows ∙ sym (mapped_twice (renamed_row slot_of) (typed_row setting (type_in c)) y.ops) in
-    let all_edges = ap (map (edge_of (params_of g))) edges ∙ edges_are g numbers are ss in
+    let all_edges = ap (map (edge_of trees (params_of g))) edges ∙ edges_are trees g numbers are ss in
     λ i. record { rows = all_rows i; edges = all_edges i }

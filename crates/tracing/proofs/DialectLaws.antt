@@ -4,14 +4,21 @@ use Rattle.std.specs.Prelude.{IfSome, nat_eq, if◌then◌else◌}
 use Rattle.std.specs.List.{filter_map, find}
 use Rattle.std.specs.Option.{option_map, option_and_then}
 use Rattle.std.proofs.Common.{eqb-true}
+use Rattle.std.proofs.lemmas.Bool.{not-false}
 use Rattle.std.proofs.lemmas.Option.{same_Some, none-some, slice_get_within}
 use Rattle.std.proofs.lemmas.List.Elements.{All-nil, All-head, All-tail, All-weaker}
+use Rattle.kinds.specs.declared.fill.Fill.{Fill}
+use Rattle.kinds.specs.declared.fill.Fill.TheVariants as F
 use Rattle.kinds.specs.declared.op.Op.{Op}
-use Rattle.kinds.specs.Held.{IsFirstClass}
+use Rattle.kinds.specs.Fill.{is_own_fill}
+use Rattle.kinds.specs.Fitting.{is_number}
+use Rattle.kinds.specs.Types.{shape}
+use Rattle.kinds.specs.Held.{IsFirstClass, width_in}
 use Rattle.kinds.proofs.HeldLaws.{int_first_class}
 use Rattle.dialect_types.specs.declared.types.TypeHandle.{TypeHandle}
 use Rattle.dialect_types.specs.declared.attrs.ConstAttr.{ConstAttr}
-use Rattle.dialect_types.specs.Trees.{TypeTree, IntegerAttr, HasTypesBelow, type_at, type_trees}
+use Rattle.llvm_core.specs.declared.numbers.LLVMType.{LLVMType}
+use Rattle.dialect_types.specs.Trees.{TypeTree, VoidType, IntType, PointerType, FloatingType, RefusedType, ArrayType, VectorType, StructType, NamedType, FunctionType, IntegerAttr, HasTypesBelow, type_at, type_trees}
 use Rattle.dialect_core.specs.declared.numbers.OpRef.{OpRef}
 use Rattle.dialect_core.specs.declared.numbers.BlockRef.{BlockRef}
 use Rattle.dialect_core.specs.declared.ops.Value.{Value}
@@ -24,21 +31,23 @@ use Rattle.dialect_core.specs.declared.ops.BlockData.{BlockData}
 use Rattle.dialect_core.specs.declared.ops.Symbol.{Symbol}
 use Rattle.dialect_core.specs.Lists.{list_at}
 use Rattle.dialect_core.specs.ContextData.{ContextData}
-use Rattle.dialect_core.specs.Data.{DialectOp, DialectBlock, Func, Kind, ConstantOp, RowOp, IsTyped, HasKindTypesBelow, kind_of, op_of, op_at, block_of, block_in, func_with, func_of, func_in, type_in}
+use Rattle.dialect_core.specs.Data.{DialectOp, DialectBlock, Func, Kind, ConstantOp, FilledOp, RowOp, IsTyped, HasKindTypesBelow, kind_of, op_of, op_at, block_of, block_in, func_with, func_of, func_in, type_in}
 use Rattle.dialect_core.specs.Rules.{Typing, IsIntegerOf, IsFirstClassBy, IsOfKind}
+use Rattle.meaning.specs.Terms.{Int, Filled, filled_term}
 use Rattle.meaning.specs.Machine as Machine
 use Rattle.meaning.specs.Setting.{Setting}
 use Rattle.meaning.specs.Dialect as Dialect
 use Rattle.meaning.specs.Dialect.{same_value, option_type, typed_action}
 use Rattle.tracing.specs.declared.body.Slot.{Slot}
 use Rattle.tracing.specs.declared.body.Slot.TheVariants.{Result}
+use Rattle.tracing.specs.declared.body.Held.TheVariants as H
 use Rattle.tracing.specs.declared.body.Source.{Source}
 use Rattle.tracing.specs.declared.body.Action.TheVariants as A
 use Rattle.tracing.specs.declared.trace.Types.{Types}
 use Rattle.tracing.specs.Types.{Stands, AllStand}
-use Rattle.tracing.proofs.GrowLaws.{applies}
+use Rattle.tracing.proofs.GrowLaws.{filled_held, applies}
 use Rattle.tracing.specs.Renamed.{renamed, renamed_action, renamed_row}
-use Rattle.tracing.specs.Bodies.{same_slot, source_of, IsAction}
+use Rattle.tracing.specs.Bodies.{same_slot, IsHeldAs, AreSources, IsAction}
 use Rattle.tracing.specs.DialectBodies.{slot_of, InContext, AreOpsIn, IsOpIn, IsUsed}
 use Rattle.tracing.proofs.ListLaws.{StandsBy, matched_at, mapped_twice}
 
@@ -176,6 +185,9 @@ result_within c r o t typed at is =
     let k = kept_op c r o at in
     subst (λ (v : Option TypeHandle). IfSome v (λ (t : TypeHandle). t.0 < length c.types)) (result_same c r o t k is) (typed.ops r.0 k.kept k.there).result
 
+pub result_tree : (c : ContextData) (r : OpRef) (o : DialectOp) (t : Option TypeHandle) → op_at (type_trees c.types) c.ops r ≡ Some o → option_map (λ (x : OpData). x.result) (slice_get c.ops r.0) ≡ Some t → o.result ≡ option_map (type_at (type_trees c.types)) t
+result_tree c r o t at is = let k = kept_op c r o at in k.result ∙ ap (option_map (type_at (type_trees c.types))) (result_same c r o t k is)
+
 pub op_within : (c : ContextData) (r : OpRef) (o : DialectOp) → op_at (type_trees c.types) c.ops r ≡ Some o → r.0 < length c.ops
 op_within c r o at = let k = kept_op c r o at in slice_get_within c.ops r.0 k.kept k.there
 
@@ -205,12 +217,18 @@ module _ (c : ContextData) (g : Func) where
   -- the operands of a well-formed operation are values of the context, of first class types
   pub used_all : (vs : List Value) (own : Option TypeTree) (edges : List Successor) (k : Kind) → IsOfKind (type_in c) g vs own edges k → All (IsUsed c) vs
   used_all vs own edges (ConstantOp (IntegerAttr type value)) is = subst (All (IsUsed c)) (sym is.bare) (All-nil (IsUsed c))
+  used_all vs own edges (FilledOp fill) is = subst (All (IsUsed c)) (sym is.bare) (All-nil (IsUsed c))
   used_all vs own edges (RowOp op) is = All-weaker (IsFirstClassBy (type_in c)) (IsUsed c) (λ v h. record { type = h.0; typed = h.1; first_class = h.2 }) vs is.values
 
   -- and so is its result, where it has one
   pub first_class_result : (vs : List Value) (own : Option TypeTree) (edges : List Successor) (k : Kind) → IsOfKind (type_in c) g vs own edges k → IfSome own IsFirstClass
   first_class_result vs own edges (ConstantOp (IntegerAttr type value)) is = rw is.result (integer_first_class type value is.integer)
+  first_class_result vs own edges (FilledOp fill) is = rw is.result is.value
   first_class_result vs own edges (RowOp op) is = is.value
+
+  -- zero, undef or poison has a result
+  pub filled_type : (vs : List Value) (own : Option TypeTree) (edges : List Successor) (k : Kind) (fill : Fill) → k ≡ FilledOp fill → IsOfKind (type_in c) g vs own edges k → (type : TypeTree) × (own ≡ Some type) × IsFirstClass type
+  filled_type vs own edges k fill is h = let f = subst (IsOfKind (type_in c) g vs own edges) is h in (f.type, f.result, f.value)
 
 pub operands_kept : (c : ContextData) (r : OpRef) (o : DialectOp) (vs : List Value) → op_at (type_trees c.types) c.ops r ≡ Some o → option_map (λ (x : OpData). x.operands) (slice_get c.ops r.0) ≡ Some vs → o.operands ≡ vs
 operands_kept c r o vs at is = let k = kept_op c r o at in k.operands ∙ same_Some k.kept.operands vs (sym (ap (option_map (λ (x : OpData). x.operands)) k.there) ∙ is)
@@ -223,6 +241,34 @@ kind_kept c r o k at is =
 
 -- ---- constants
 
+-- a type whose zero is no constant of its own is an integer type: a line for each kind
+number_type : (t : TypeTree) → is_number (shape t) ≡ true → (w : ℕ) × (t ≡ IntType w)
+number_type (IntType w) h = (w, refl)
+number_type VoidType h = absurd cc
+number_type (PointerType space) h = absurd cc
+number_type (FloatingType of) h = absurd cc
+number_type (RefusedType of) h = absurd cc
+number_type (ArrayType count t) h = absurd cc
+number_type (VectorType kind count t) h = absurd cc
+number_type (StructType layout ts) h = absurd cc
+number_type (NamedType name) h = absurd cc
+number_type (FunctionType r ps v) h = absurd cc
+
+pub not_own : (fill : Fill) (t : TypeTree) → is_own_fill fill (shape t) ≡ false → (w : ℕ) × (t ≡ IntType w)
+not_own F.Zero t h = number_type t (not-false (is_number (shape t)) h)
+not_own F.Undef t h = absurd cc
+not_own F.Poison t h = absurd cc
+
+-- the zero of an integer type is the integer 0
+pub zero_held : (trees : List TypeTree) (fill : Fill) (t : TypeTree) (w : ℕ) → is_own_fill fill (shape t) ≡ false → t ≡ IntType w → IsHeldAs trees (H.Int w 0) (filled_term fill t)
+zero_held trees fill t w own int = λ later more.
+    (sym (ap (λ (b : Bool). if b then Filled fill t else Int (width_in t) 0) own ∙ ap (λ (u : TypeTree). Int (width_in u) 0) int), tt)
+
+-- any other is of its type
+pub own_held : (trees : List TypeTree) (fill : Fill) (t : TypeTree) (place : LLVMType) → is_own_fill fill (shape t) ≡ true → Stands trees place t → IsHeldAs trees (H.Filled fill place) (filled_term fill t)
+own_held trees fill t place own stands =
+    subst (IsHeldAs trees (H.Filled fill place)) (sym (ap (λ (b : Bool). if b then Filled fill t else Int (width_in t) 0) own)) (filled_held trees fill place t stands)
+
 pub constant_within : (c : ContextData) (r : OpRef) (o : DialectOp) (value : ConstAttr) → IsTyped c → op_at (type_trees c.types) c.ops r ≡ Some o → option_map (λ (x : OpData). x.kind) (slice_get c.ops r.0) ≡ Some (O.Constant value) → HasTypesBelow (length c.types) value
 constant_within c r o value typed at is =
     let x = kept_op c r o at in
@@ -232,11 +278,11 @@ constant_within c r o value typed at is =
 -- ---- actions and rows
 
 pub applied_is : (trees : List TypeTree) (setting : Setting) (types : Typing) (o : DialectOp) (op : Op) (shown : Types) (os : List Source) (vs : List Value) → o.operands ≡ vs → Stands trees shown.result (option_type o.result)
-    → AllStand trees shown.operands (map (λ (v : Value). option_type (types v)) vs) → map source_of os ≡ map (λ (v : Value). let o : Machine.Operand Slot = Machine.At (slot_of v) in o) vs
+    → AllStand trees shown.operands (map (λ (v : Value). option_type (types v)) vs) → AreSources trees os (map (λ (v : Value). let o : Machine.Operand Slot = Machine.At (slot_of v) in o) vs)
     → IsAction trees (A.Applies op shown os) (renamed_action slot_of (typed_action setting types o (RowOp op)))
 applied_is trees setting types o op shown os vs operands type operand_types sources =
     applies trees op shown os _ _ _ type (subst (λ (ws : List Value). AllStand trees shown.operands (map (λ (v : Value). option_type (types v)) ws)) (sym operands) operand_types)
-    (sources ∙ ap (map (λ (v : Value). let o : Machine.Operand Slot = Machine.At (slot_of v) in o)) (sym operands) ∙ sym (mapped_twice (renamed slot_of) (λ (v : Value). let o : Machine.Operand Value = Machine.At v in o) o.operands))
+    (subst (AreSources trees os) (ap (map (λ (v : Value). let o : Machine.Operand Slot = Machine.At (slot_of v) in o)) (sym operands) ∙ sym (mapped_twice (renamed slot_of) (λ (v : Value). let o : Machine.Operand Value = Machine.At v in o) o.operands)) sources)
 
 -- what an operation of a known kind does
 pub action_of_kind : (setting : Setting) (c : ContextData) (r : OpRef) (o : DialectOp) (k : OpKind) (kind : Kind) → op_at (type_trees c.types) c.ops r ≡ Some o → option_map (λ (x : OpData). x.kind) (slice_get c.ops r.0) ≡ Some k → kind_of (type_trees c.types) k ≡ Some kind

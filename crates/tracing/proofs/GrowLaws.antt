@@ -6,17 +6,23 @@ use Rattle.std.proofs.lemmas.List.{map-append}
 use Rattle.std.proofs.lemmas.List.Elements.{All-nil, All-cons, All-push}
 use Rattle.std.proofs.lemmas.Option.{same_Some, slice_get_within, get_or_from_slice_get}
 use Rattle.support.specs.NumberMaps.{value_at}
+use Rattle.kinds.specs.declared.fill.Fill.{Fill}
 use Rattle.kinds.specs.declared.op.Op.{Op}
 use Rattle.llvm_core.specs.declared.numbers.LLVMType.{LLVMType}
 use Rattle.llvm_core.specs.declared.types.LLVMTypeKind.{LLVMTypeKind}
 use Rattle.llvm_core.specs.Data.{TypeTree, VoidType, type_at, types_at, type_trees}
 use Rattle.llvm_core.proofs.TreeLemmas.{length-type_trees}
 use Rattle.meaning.proofs.MatchedLaws.{matched_push}
+use Rattle.meaning.specs.Terms as T
+use Rattle.meaning.specs.Terms.{Term}
 use Rattle.meaning.specs.Machine as M
 use Rattle.tracing.specs.declared.trace.Types.{Types}
 use Rattle.tracing.specs.declared.type_places.TypePlaces.{TypePlaces}
 use Rattle.tracing.specs.declared.body.Slot.{Slot}
+use Rattle.tracing.specs.declared.body.Held.{Held}
+use Rattle.tracing.specs.declared.body.Held.TheVariants as H
 use Rattle.tracing.specs.declared.body.Source.{Source}
+use Rattle.tracing.specs.declared.body.Source.TheVariants as S
 use Rattle.tracing.specs.declared.body.Action.{Action}
 use Rattle.tracing.specs.declared.body.Action.TheVariants as A
 use Rattle.tracing.specs.declared.body.Row.{Row}
@@ -24,7 +30,7 @@ use Rattle.tracing.specs.declared.body.Block.{Block}
 use Rattle.tracing.specs.Types.{Stands, AllStand, AreBelow, KeepsTypes, Lasts}
 use Rattle.tracing.specs.TypePlaces.{trees_in, ArePlacesOf, IsGrown}
 use Rattle.tracing.proofs.ListLaws.{listed_more}
-use Rattle.tracing.specs.Bodies.{source_of, action_of, row_of, block_of, IsTypedRow, IsTypedBlock, IsAction, AreRows, IsBlock, AreBlocks}
+use Rattle.tracing.specs.Bodies.{source_of, action_of, row_of, block_of, IsTypedSource, IsTypedRow, IsTypedBlock, IsHeldAs, IsSource, AreSources, IsAction, AreRows, IsBlock, AreBlocks}
 
 -- ---- types that stand
 
@@ -100,16 +106,42 @@ then_grown source a b c first second = record { kept = λ k t at. second.kept k 
 pub lasts : (P : List TypeTree → Type 0) (old new : List TypeTree) → KeepsTypes old new → Lasts old P → Lasts new P
 lasts P old new keeps h = λ later more. h later (λ k t at. more k t (keeps k t at))
 
+-- a constant of a type that stands in the table
+pub filled_held : (trees : List TypeTree) (fill : Fill) (t : LLVMType) (u : TypeTree) → Stands trees t u → IsHeldAs trees (H.Filled fill t) (T.Filled fill u)
+filled_held trees fill t u stands = λ later more.
+    let here = more t.0 u stands in
+    (ap (T.Filled fill) (stands_at later t u here), slice_get_within later t.0 u here)
+
+-- a constant as an operand, and what holds it
+pub held_source : (trees : List TypeTree) (held : Held) (t : Term) → IsHeldAs trees held t → IsSource trees (S.Fixed held) (M.Fixed t)
+held_source trees held t is = λ later more. let h = is later more in (ap (λ (u : Term). let o : M.Operand Slot = M.Fixed u in o) h.0, h.1)
+
+pub held_action : (trees : List TypeTree) (held : Held) (t : Term) → IsHeldAs trees held t → IsAction trees (A.Holds held) (M.Holds t)
+held_action trees held t is = λ later more. let h = is later more in (ap (λ (u : Term). let a : M.Action Slot = M.Holds u in a) h.0, h.1)
+
+pub no_sources : (trees : List TypeTree) → AreSources trees [] []
+no_sources trees = λ later more. (refl, All-nil (IsTypedSource (length later)))
+
+-- one operand more
+pub sources_push : (old new : List TypeTree) (ss : List Source) (xs : List (M.Operand Slot)) (s : Source) (x : M.Operand Slot) → KeepsTypes old new → AreSources old ss xs → IsSource new s x → AreSources new (ss ++ s ∷ []) (xs ++ x ∷ [])
+sources_push old new ss xs s x keeps before here = λ later more.
+    let b = lasts _ old new keeps before later more in
+    let h = here later more in (
+      map-append (source_of later) ss (s ∷ []) ∙ ap (λ l. l ++ source_of later s ∷ []) b.0 ∙ ap (λ y. xs ++ y ∷ []) h.0,
+      All-push (IsTypedSource (length later)) ss s b.1 h.1,
+    )
+
 applies_same : (o : Op) (ty ty' : TypeTree) (tys tys' : List TypeTree) (os os' : List (M.Operand Slot)) → ty ≡ ty' → tys ≡ tys' → os ≡ os' → ◌≡◌ {A = M.Action Slot} (M.Applies o ty tys os) (M.Applies o ty' tys' os')
 applies_same o ty ty' tys tys' os os' a b c = cc
 
 -- an action on operands, whose types stand in the table
-pub applies : (trees : List TypeTree) (o : Op) (types : Types) (operands : List Source) (ty : TypeTree) (tys : List TypeTree) (os : List (M.Operand Slot)) → Stands trees types.result ty → AllStand trees types.operands tys → map source_of operands ≡ os
+pub applies : (trees : List TypeTree) (o : Op) (types : Types) (operands : List Source) (ty : TypeTree) (tys : List TypeTree) (os : List (M.Operand Slot)) → Stands trees types.result ty → AllStand trees types.operands tys → AreSources trees operands os
     → IsAction trees (A.Applies o types operands) (M.Applies o ty tys os)
 applies trees o types operands ty tys os result rest sources = λ later keeps.
     let here = keeps types.result.0 ty result in
     let all = all_stay trees later keeps types.operands tys rest in
-    (applies_same o _ _ _ _ _ _ (stands_at later types.result ty here) (all_at later types.operands tys all) sources, (slice_get_within later types.result.0 ty here, all_types_below later types.operands tys all))
+    let given = sources later keeps in
+    (applies_same o _ _ _ _ _ _ (stands_at later types.result ty here) (all_at later types.operands tys all) given.0, ((slice_get_within later types.result.0 ty here, all_types_below later types.operands tys all), given.1))
 
 -- one row more
 pub rows_push : (old new : List TypeTree) (rs : List Row) (xs : List (M.Row Slot)) (a : Action) (x : M.Action Slot) (v : Slot) → KeepsTypes old new → AreRows old rs xs → IsAction new a x

@@ -27,26 +27,27 @@ use Rattle.tracing.proofs.RunLaws.{named_push, at_alike}
 abbrev Move : Type 0
 Move = Slot × Option (Operand Slot)
 
-moves_push : (n : ℕ) (ps : List Slot) (p : Slot) (os : List (Option Source)) → moves_from n (ps ++ p ∷ []) os ≡ moves_from n ps os ++ (p, given os (n + length ps)) ∷ []
-moves_push n [] p os = let e : n + 0 ≡ n = omega arith in ap (λ (k : ℕ). let m : List Move = (p, given os k) ∷ [] in m) (sym e)
-moves_push n (q ∷ ps) p os =
-    let e : suc n + length ps ≡ n + suc (length ps) = omega arith in
-    ap (λ (ms : List Move). (q, given os n) ∷ ms) (moves_push (suc n) ps p os ∙ ap (λ (k : ℕ). moves_from (suc n) ps os ++ (p, given os k) ∷ []) e)
+module _ (trees : List TypeTree) where
+  moves_push : (n : ℕ) (ps : List Slot) (p : Slot) (os : List (Option Source)) → moves_from trees n (ps ++ p ∷ []) os ≡ moves_from trees n ps os ++ (p, given trees os (n + length ps)) ∷ []
+  moves_push n [] p os = let e : n + 0 ≡ n = omega arith in ap (λ (k : ℕ). let m : List Move = (p, given trees os k) ∷ [] in m) (sym e)
+  moves_push n (q ∷ ps) p os =
+      let e : suc n + length ps ≡ n + suc (length ps) = omega arith in
+      ap (λ (ms : List Move). (q, given trees os n) ∷ ms) (moves_push (suc n) ps p os ∙ ap (λ (k : ℕ). moves_from trees (suc n) ps os ++ (p, given trees os k) ∷ []) e)
 
-pub moves_step : (ps : List Slot) (os : List (Option Source)) (i : ℕ) (d : Slot) → i < length ps → moves_from 0 (take (i + 1) ps) os ≡ moves_from 0 (take i ps) os ++ (get_or ps i d, given os i) ∷ []
-moves_step ps os i d lt =
-    let e : 0 + length (take i ps) ≡ i = omega (arith, length-take-le i ps (omega arith)) in
-    ap (λ qs. moves_from 0 qs os) (take_more ps i d lt) ∙ moves_push 0 (take i ps) (get_or ps i d) os ∙ ap (λ (k : ℕ). moves_from 0 (take i ps) os ++ (get_or ps i d, given os k) ∷ []) e
+  pub moves_step : (ps : List Slot) (os : List (Option Source)) (i : ℕ) (d : Slot) → i < length ps → moves_from trees 0 (take (i + 1) ps) os ≡ moves_from trees 0 (take i ps) os ++ (get_or ps i d, given trees os i) ∷ []
+  moves_step ps os i d lt =
+      let e : 0 + length (take i ps) ≡ i = omega (arith, length-take-le i ps (omega arith)) in
+      ap (λ qs. moves_from trees 0 qs os) (take_more ps i d lt) ∙ moves_push 0 (take i ps) (get_or ps i d) os ∙ ap (λ (k : ℕ). moves_from trees 0 (take i ps) os ++ (get_or ps i d, given trees os k) ∷ []) e
 
 abbrev pub taken : (Slot → Term) → List Move → List Term
 taken env ms = map (λ (m : Move). M.read_move env m.1) ms
 
 -- one phi or argument more is read
-pub moves_read : (trees : List TypeTree) (old new : List TermNode) (env : Slot → Term) (ps : List Slot) (os : List (Option Source)) (i : ℕ) (d : Slot) (ks : List ℕ) (k : ℕ) → i < length ps → Keeps trees old new → AllNamed trees old ks (taken env (moves_from 0 (take i ps) os)) → Names trees new k (M.read_move env (given os i))
-    → AllNamed trees new (ks ++ k ∷ []) (taken env (moves_from 0 (take (i + 1) ps) os))
+pub moves_read : (trees : List TypeTree) (old new : List TermNode) (env : Slot → Term) (ps : List Slot) (os : List (Option Source)) (i : ℕ) (d : Slot) (ks : List ℕ) (k : ℕ) → i < length ps → Keeps trees old new → AllNamed trees old ks (taken env (moves_from trees 0 (take i ps) os)) → Names trees new k (M.read_move env (given trees os i))
+    → AllNamed trees new (ks ++ k ∷ []) (taken env (moves_from trees 0 (take (i + 1) ps) os))
 moves_read trees old new env ps os i d ks k lt keeps h named =
-    let e = ap (taken env) (moves_step ps os i d lt) ∙ map-append (λ (m : Move). M.read_move env m.1) (moves_from 0 (take i ps) os) ((get_or ps i d, given os i) ∷ []) in
-    subst (AllNamed trees new (ks ++ k ∷ [])) (sym e) (named_push trees old new ks (taken env (moves_from 0 (take i ps) os)) k (M.read_move env (given os i)) keeps h named)
+    let e = ap (taken env) (moves_step trees ps os i d lt) ∙ map-append (λ (m : Move). M.read_move env m.1) (moves_from trees 0 (take i ps) os) ((get_or ps i d, given trees os i) ∷ []) in
+    subst (AllNamed trees new (ks ++ k ∷ [])) (sym e) (named_push trees old new ks (taken env (moves_from trees 0 (take i ps) os)) k (M.read_move env (given trees os i)) keeps h named)
 
 -- ---- values are set
 
@@ -83,14 +84,14 @@ moved_each : (before env : Slot → Term) (ms : List Move) → M.moved Slot same
 moved_each before env [] = refl
 moved_each before env (m ∷ ms) = moved_each before (M.set Slot same_slot env m.0 (M.read_move before m.1)) ms
 
-moves_params : (n : ℕ) (ps : List Slot) (os : List (Option Source)) → map (λ (m : Move). m.0) (moves_from n ps os) ≡ ps
-moves_params n [] os = refl
-moves_params n (p ∷ ps) os = ap (λ (qs : List Slot). p ∷ qs) (moves_params (suc n) ps os)
+moves_params : (trees : List TypeTree) (n : ℕ) (ps : List Slot) (os : List (Option Source)) → map (λ (m : Move). m.0) (moves_from trees n ps os) ≡ ps
+moves_params trees n [] os = refl
+moves_params trees n (p ∷ ps) os = ap (λ (qs : List Slot). p ∷ qs) (moves_params trees (suc n) ps os)
 
-pub moved_at : (trees : List TypeTree) (r : Run) (s : State Slot) (ps : List Slot) (os : List (Option Source)) → IsAt trees r (with_each s ps (taken s.env (moves_from 0 ps os))) → IsAt trees r (M.move Slot same_slot s (moves_from 0 ps os))
+pub moved_at : (trees : List TypeTree) (r : Run) (s : State Slot) (ps : List Slot) (os : List (Option Source)) → IsAt trees r (with_each s ps (taken s.env (moves_from trees 0 ps os))) → IsAt trees r (M.move Slot same_slot s (moves_from trees 0 ps os))
 moved_at trees r s ps os h =
-    let e = moved_each s.env s.env (moves_from 0 ps os) ∙ ap (λ qs. set_each s.env qs (taken s.env (moves_from 0 ps os))) (moves_params 0 ps os) in
-    at_alike trees r (with_each s ps (taken s.env (moves_from 0 ps os))) (M.move Slot same_slot s (moves_from 0 ps os)) refl (λ v. ap (λ (f : Slot → Term). f v) e) refl refl h
+    let e = moved_each s.env s.env (moves_from trees 0 ps os) ∙ ap (λ qs. set_each s.env qs (taken s.env (moves_from trees 0 ps os))) (moves_params trees 0 ps os) in
+    at_alike trees r (with_each s ps (taken s.env (moves_from trees 0 ps os))) (M.move Slot same_slot s (moves_from trees 0 ps os)) refl (λ v. ap (λ (f : Slot → Term). f v) e) refl refl h
 
 -- ---- jumps
 
@@ -104,21 +105,21 @@ module _ (trees : List TypeTree) (params : List (List Slot)) (bs : List Block) (
   pub no_block : slice_get bs s.block ≡ None → jumped ≡ None
   no_block h = ap (λ (b : Option (M.Block Slot)). M.take_edge Slot same_slot (code_of trees params bs) s (M.edge_of Slot same_slot b choice)) (block_there trees params bs s.block ∙ ap (option_map (block_of trees params)) h)
 
-  taken_edge : (b : Block) (e : Option Edge) → slice_get bs s.block ≡ Some b → slice_get b.edges choice ≡ e → jumped ≡ M.take_edge Slot same_slot (code_of trees params bs) s (option_map (edge_of params) e)
+  taken_edge : (b : Block) (e : Option Edge) → slice_get bs s.block ≡ Some b → slice_get b.edges choice ≡ e → jumped ≡ M.take_edge Slot same_slot (code_of trees params bs) s (option_map (edge_of trees params) e)
   taken_edge b e h k =
       ap (λ (b : Option (M.Block Slot)). M.take_edge Slot same_slot (code_of trees params bs) s (M.edge_of Slot same_slot b choice)) (block_there trees params bs s.block ∙ ap (option_map (block_of trees params)) h)
-      ∙ ap (M.take_edge Slot same_slot (code_of trees params bs) s) (slice_get-map (edge_of params) b.edges choice ∙ ap (option_map (edge_of params)) k)
+      ∙ ap (M.take_edge Slot same_slot (code_of trees params bs) s) (slice_get-map (edge_of trees params) b.edges choice ∙ ap (option_map (edge_of trees params)) k)
 
   pub no_edge : (b : Block) → slice_get bs s.block ≡ Some b → slice_get b.edges choice ≡ None → jumped ≡ None
   no_edge b h k = taken_edge b None h k
 
   pub no_target : (b : Block) (e : Edge) → slice_get bs s.block ≡ Some b → slice_get b.edges choice ≡ Some e → slice_get bs e.to ≡ None → jumped ≡ None
-  no_target b e h k l = taken_edge b (Some e) h k ∙ ap (M.follow Slot same_slot s (edge_of params e)) (block_there trees params bs e.to ∙ ap (option_map (block_of trees params)) l)
+  no_target b e h k l = taken_edge b (Some e) h k ∙ ap (M.follow Slot same_slot s (edge_of trees params e)) (block_there trees params bs e.to ∙ ap (option_map (block_of trees params)) l)
 
   pub goes : (b : Block) (e : Edge) (t : Block) → slice_get bs s.block ≡ Some b → slice_get b.edges choice ≡ Some e → slice_get bs e.to ≡ Some t
-      → jumped ≡ Some (M.arrive Slot same_slot (M.move Slot same_slot s (moves_from 0 (params_at params e.to) e.sources)) e.to (map (row_of trees) t.rows))
+      → jumped ≡ Some (M.arrive Slot same_slot (M.move Slot same_slot s (moves_from trees 0 (params_at params e.to) e.sources)) e.to (map (row_of trees) t.rows))
   goes b e t h k l =
-      taken_edge b (Some e) h k ∙ ap (M.follow Slot same_slot s (edge_of params e)) (block_there trees params bs e.to ∙ ap (option_map (block_of trees params)) l)
+      taken_edge b (Some e) h k ∙ ap (M.follow Slot same_slot s (edge_of trees params e)) (block_there trees params bs e.to ∙ ap (option_map (block_of trees params)) l)
 
 pub found : {A : Type 0} (xs : List A) (i : ℕ) (x : A) → i < length xs → x ≡ get_or xs i x → slice_get xs i ≡ Some x
 found xs i x lt e = slice_get-get_or xs i x lt ∙ ap Some (sym e)

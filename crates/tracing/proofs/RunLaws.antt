@@ -140,11 +140,11 @@ module _ (trees : List TypeTree) where
   named_push old new ks ts k t keeps h named = matched_push (Names trees new) ks ts k t (all_kept old new keeps ks ts h) named
 
   -- one operand more is read
-  pub reads_step : (old new : List TermNode) (env : Slot → Term) (xs : List Source) (i : ℕ) (d : Source) (ks : List ℕ) (k : ℕ) → i < length xs → Keeps trees old new → AllNamed trees old ks (map (M.read env) (map source_of (take i xs))) → Names trees new k (M.read env (source_of (get_or xs i d)))
-      → AllNamed trees new (ks ++ k ∷ []) (map (M.read env) (map source_of (take (i + 1) xs)))
+  pub reads_step : (old new : List TermNode) (env : Slot → Term) (xs : List Source) (i : ℕ) (d : Source) (ks : List ℕ) (k : ℕ) → i < length xs → Keeps trees old new → AllNamed trees old ks (map (M.read env) (map (source_of trees) (take i xs))) → Names trees new k (M.read env (source_of trees (get_or xs i d)))
+      → AllNamed trees new (ks ++ k ∷ []) (map (M.read env) (map (source_of trees) (take (i + 1) xs)))
   reads_step old new env xs i d ks k lt keeps h named =
-      subst (AllNamed trees new (ks ++ k ∷ [])) (sym (take_read (M.read env) source_of xs i d lt))
-      (named_push old new ks (map (M.read env) (map source_of (take i xs))) k (M.read env (source_of (get_or xs i d))) keeps h named)
+      subst (AllNamed trees new (ks ++ k ∷ [])) (sym (take_read (M.read env) (source_of trees) xs i d lt))
+      (named_push old new ks (map (M.read env) (map (source_of trees) (take i xs))) k (M.read env (source_of trees (get_or xs i d))) keeps h named)
 
   -- the terms that stand at places are what is looked up there
   pub named_terms : (ns : List TermNode) (ks : List ℕ) (us : List Term) → AllNamed trees ns ks us → map (term_at (terms trees ns)) ks ≡ us
@@ -179,7 +179,7 @@ module _ (trees : List TypeTree) where
 
   module _ (r : Run) (s : State Slot) (v : Slot) (o : Op) (types : Types) (operands : List Source) where
     abbrev ts : List Term
-    ts = map (M.read s.env) (map source_of operands)
+    ts = map (M.read s.env) (map (source_of trees) operands)
 
     abbrev event : Item
     event = M.Event o (type_at trees types.result) (map (type_at trees) types.operands) ts

@@ -36,6 +36,7 @@ module _ (trees : List TypeTree) where
   same_term ts us n same (N.Answer i) h = refl
   same_term ts us n same N.Unset h = refl
   same_term ts us n same (N.Int w v) h = refl
+  same_term ts us n same (N.Filled fill ty) h = refl
   same_term ts us n same (N.Expr o ty ks) h = ap (λ (l : List Term). M.Expr o (type_at trees ty) (terms_of l)) (same_parts ts us n same ks h)
 
   pub length-terms : (ns : List TermNode) → length (terms trees ns) ≡ length ns
@@ -132,6 +133,7 @@ module _ (trees : List TypeTree) (apart : IsDistinctList trees) where
       let same : ks ≡ ls = same_lists ts n m known ks ls a b (cc) in
       let types : t ≡ u = type_known t u below_t below_u (cc) in
       cc
+  same_nodes ts n m known (N.Filled f t) (N.Filled g u) a b below_t below_u h = let types : t ≡ u = type_known t u below_t below_u (cc) in cc
   same_nodes ts n m known x y p q c d h = grind arith
 
   -- by the larger of the places

@@ -14,7 +14,7 @@ use Rattle.llvm_core.specs.Module.{Module}
 use Rattle.llvm_core.specs.Sound.{IsModule}
 use Rattle.llvm_core.specs.Parts.{IsValue}
 use Rattle.llvm_core.specs.Data as L
-use Rattle.llvm_core.specs.Data.{Placed, Function, trees_of, function_of, block_at, placed_at, operand_of, operand_type, phi_entries, data_of}
+use Rattle.llvm_core.specs.Data.{TypeTree, Placed, Function, trees_of, function_of, block_at, placed_at, operand_of, operand_type, phi_entries, data_of}
 use Rattle.llvm_core.specs.Checked.{IsChecked, home, is_outside}
 use Rattle.llvm_core.specs.Form.{is_phi}
 use Rattle.meaning.specs.Machine as M
@@ -27,7 +27,8 @@ use Rattle.tracing.specs.declared.body.Source.{Source}
 use Rattle.tracing.specs.declared.body.Edge.{Edge}
 use Rattle.tracing.specs.declared.llvm_index.Phi.{Phi}
 use Rattle.tracing.specs.declared.llvm_index.Index.{Index}
-use Rattle.tracing.specs.Bodies.{source_of}
+use Rattle.tracing.specs.Types.{Lasts}
+use Rattle.tracing.specs.Bodies.{HandsOver}
 use Rattle.tracing.specs.Renamed.{renamed, renamed_row}
 
 abbrev pub slot_of : Key → Slot
@@ -84,16 +85,24 @@ abbrev pub first_of : {X : Type 0} → Option X → Option X → Option X
 first_of None y = y
 first_of (Some x) y = Some x
 
--- the phi's slot, and what it takes for each block that an edge comes from
-pub record IsPhiOf (m : Module) (x : Phi) (p : Placed) : Type 0 where
+-- the phi's slot, and what it takes for each block that an edge comes from, by these types
+pub record IsPhiOf (m : Module) (trees : List TypeTree) (x : Phi) (p : Placed) : Type 0 where
   pub entries : List (L.Operand × ℕ)
   pub are : phi_entries p.instruction ≡ Some entries
   pub slot : x.slot ≡ Result p.number
-  pub incoming : (from : ℕ) → option_map source_of (get nat_eq x.incoming from) ≡ option_map (renamed slot_of) (entry_for (setting_in m) from entries)
+  pub incoming : (from : ℕ) → HandsOver trees (get nat_eq x.incoming from) (option_map (renamed slot_of) (entry_for (setting_in m) from entries))
 
--- the phis of instructions, in order
-abbrev pub ArePhisOf : Module → List Phi → List Placed → Type 0
-ArePhisOf m xs ps = Matched (IsPhiOf m) xs (filter is_phi ps)
+-- they are phis, in order, by these types and however many more come
+abbrev pub ArePhis : Module → List TypeTree → List Phi → List Placed → Type 0
+ArePhis m trees xs ps = Lasts trees (λ (ts : List TypeTree). Matched (IsPhiOf m ts) xs ps)
+
+-- the phis of instructions, in order, by these types
+abbrev pub ArePhisOf : Module → List TypeTree → List Phi → List Placed → Type 0
+ArePhisOf m trees xs ps = Matched (IsPhiOf m trees) xs (filter is_phi ps)
+
+-- those of blocks
+abbrev pub AreBlockPhis : Module → List TypeTree → List (List Phi) → List L.Block → Type 0
+AreBlockPhis m trees all ys = Matched (λ (xs : List Phi) (y : L.Block). ArePhisOf m trees xs y.instructions) all ys
 
 abbrev pub slots_of : List Phi → List Slot
 slots_of xs = map (λ (x : Phi). x.slot) xs
@@ -110,10 +119,14 @@ pub record IsBlockIn (m : Module) (h : InChecked m) (b : LLVMBasicBlock) (y : L.
   pub at : slice_get (data_in m h).blocks place ≡ Some y
   pub here : block_at (trees_of m) m.blocks m.insts b ≡ Some y
 
--- the phis of each block, and the place of each by its number
-pub record IsIndexOf (m : Module) (h : InChecked m) (x : Index) : Type 0 where
+-- the phis of each block, by these types, and the place of each by its number
+pub record IsIndexOf (m : Module) (h : InChecked m) (trees : List TypeTree) (x : Index) : Type 0 where
   pub places : x.places ≡ map (λ (y : L.Block). y.number) (data_in m h).blocks
-  pub phis : Matched (λ (xs : List Phi) (y : L.Block). ArePhisOf m xs y.instructions) x.phis (data_in m h).blocks
+  pub phis : AreBlockPhis m trees x.phis (data_in m h).blocks
+
+-- however many more types come
+abbrev pub IsIndex : (m : Module) → InChecked m → List TypeTree → Index → Type 0
+IsIndex m h trees x = Lasts trees (λ (ts : List TypeTree). IsIndexOf m h ts x)
 
 abbrev pub params_in : Index → List (List Slot)
 params_in x = map slots_of x.phis

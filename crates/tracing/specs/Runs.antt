@@ -84,10 +84,6 @@ module _ (trees : List TypeTree) where
   abbrev pub Keeps : List TermNode → List TermNode → Type 0
   Keeps old new = (k : ℕ) (t : Term) → Names old k t → Names new k t
 
--- it is at a state
-abbrev pub IsRun : Run → Type 0
-IsRun r = (trees : List TypeTree) × (s : State Slot) × IsAt trees r s
-
 -- it is at a state, by as many types as are asked for
 abbrev pub IsRunOver : (ℕ → Type 0) → Run → Type 0
 IsRunOver P r = (trees : List TypeTree) × (s : State Slot) × P (length trees) × IsAt trees r s

@@ -16,6 +16,7 @@ node_term trees ts (N.Param i) = M.Param i
 node_term trees ts (N.Answer n) = M.Answer n
 node_term trees ts N.Unset = Unset
 node_term trees ts (N.Int w v) = M.Int w v
+node_term trees ts (N.Filled fill ty) = M.Filled fill (type_at trees ty)
 node_term trees ts (N.Expr o ty ks) = M.Expr o (type_at trees ty) (terms_of (map (term_at ts) ks))
 
 -- the terms of a table, each made of earlier ones, with types among those trees
@@ -33,6 +34,7 @@ IsGrounded ns = (i : ℕ) (n : TermNode) → slice_get ns i ≡ Some n → HasPa
 
 -- the type of a node is a number below n
 abbrev pub HasTypeBelow : ℕ → TermNode → Type 0
+HasTypeBelow n (N.Filled fill ty) = ty.0 < n
 HasTypeBelow n (N.Expr o ty ks) = ty.0 < n
 HasTypeBelow n _ = Unit {0}
 

@@ -2,7 +2,9 @@
 
 use crate::trace::Types;
 use crate::type_table::TypeTable;
+use kinds::fill::Fill;
 use kinds::op::Op;
+use llvm_core::numbers::LLVMType;
 use support::items::Items;
 
 /// What sets a term in a run.
@@ -14,21 +16,30 @@ pub enum Slot {
     Result(u32),
 }
 
+/// What a constant is.
+#[derive(Clone, Copy, Drop)]
+pub enum Held {
+    /// An integer of a width.
+    Int(u32, u128),
+    /// Zero, undef or poison of a type, which is a place of the table of types.
+    Filled(Fill, LLVMType),
+    /// What stands for nothing yet, as a placeholder.
+    Unset,
+}
+
 /// An operand.
 #[derive(Clone, Copy, Drop)]
 pub enum Source {
     At(Slot),
-    /// An integer of a width.
-    Int(u32, u128),
-    /// What stands for nothing yet, as a placeholder.
-    Unset,
+    /// A constant, which is written in place.
+    Fixed(Held),
 }
 
 /// What an instruction or operation does.
 #[derive(Drop)]
 pub enum Action {
-    /// It holds an integer of a width.
-    Holds(u32, u128),
+    /// It holds a constant.
+    Holds(Held),
     /// It applies a row of the table to operands.
     Applies {
         op: Op,
@@ -58,7 +69,7 @@ pub struct Block {
     pub edges: Items<Edge>,
 }
 
-/// A body: the types that its rows name, what its parameters are handed to and how many there are, the phis or arguments
+/// A body: the types that its rows and edges name, what its parameters are handed to and how many there are, the phis or arguments
 /// of each block, and its blocks.
 #[derive(Drop)]
 pub struct Body {

@@ -4,27 +4,30 @@ ghost use Rattle.std.specs.Prelude.{◌≡◌, ◌<◌, ℕ, List, All, IfOk, On
 ghost use Rattle.kinds.specs.Held.{IsFirstClass};
 ghost use Rattle.dialect_types.specs.declared.attrs.ConstAttr.TheVariants as attrs;
 ghost use Rattle.dialect_types.specs.Trees.{TypeTree, IntType, IntegerAttr, HasTypesBelow, type_at, type_trees, attr_tree};
-ghost use Rattle.dialect_core.specs.Data.{DialectBlock, DialectOp, RowOp, IsTyped, block_in, op_at, type_in};
+ghost use Rattle.dialect_core.specs.Data.{DialectBlock, DialectOp, FilledOp, RowOp, IsTyped, block_in, op_at, type_in};
 ghost use Rattle.dialect_core.specs.Rules.{IsIntegerOf};
+ghost use Rattle.meaning.specs.Terms.{filled_term};
 ghost use Rattle.meaning.specs.Machine as machine;
 ghost use Rattle.meaning.specs.Setting.{Setting};
 ghost use Rattle.meaning.specs.Dialect as dialect;
 ghost use Rattle.meaning.specs.Dialect.{option_type};
 ghost use Rattle.tracing.specs.Types.{AllStand, Stands};
 ghost use Rattle.tracing.specs.TypePlaces.{trees_in, ArePlacesOf, IsGrown};
-ghost use Rattle.tracing.specs.Bodies.{source_of, action_of, IsAction, AreRows};
+ghost use Rattle.tracing.specs.Bodies.{IsHeldAs, AreSources, IsAction, AreRows};
 ghost use Rattle.tracing.specs.Renamed.{renamed_action, renamed_row};
 ghost use Rattle.tracing.specs.DialectBodies.{slot_of, InContext, AreOpsIn, IsOpIn, IsUsed, rows_of};
 
-use crate::body::{Action, Row, Slot, Source};
+use crate::body::{Action, Held, Row, Slot, Source};
 use crate::dialect_typing::place;
 use crate::trace::Types;
 use crate::type_places::TypePlaces;
 use dialect_core::context::Context;
 use dialect_core::numbers::{BlockRef, OpRef};
 use dialect_core::ops::{OpKind, Value};
+use dialect_core::type_tests::shape_at;
 use dialect_types::attrs::ConstAttr;
 use dialect_types::types::{TypeHandle, TypeKind};
+use kinds::fill::Fill;
 use kinds::op::Op;
 use llvm_core::numbers::LLVMType;
 use std::alloc::{AllocError, Global};
@@ -126,7 +129,7 @@ fn operand_types(
 }
 
 fn sources(alloc: Global, values: &[Value]) -> Result<Items<Source>, AllocError>
-    ensures { IfOk result (λ ss. map source_of ss ≡ map (λ v. machine.At (slot_of v)) values.now) }
+    ensures { IfOk result (λ ss. (trees : List TypeTree) → AreSources trees ss (map (λ v. machine.At (slot_of v)) values.now)) }
 {
     let mut sources = Items::new(alloc);
     for value in values {
@@ -151,7 +154,51 @@ fn constant(ctx: &Context, value: &ConstAttr) -> Action
     ensures { (setting : Setting) → (trees : List TypeTree) → IsAction trees result (machine.Holds (dialect.attr_term setting (attr_tree (type_trees ctx.now.types) value.now))) }
 {
     let (ty, number) = parts_of(value);
-    Action::Holds(int_width(ctx, ty), u128::from(number))
+    Action::Holds(Held::Int(int_width(ctx, ty), u128::from(number)))
+}
+
+/// Zero, undef or poison of a type, which gets a place: the zero of an integer type is the integer 0.
+fn filled(
+    alloc: Global,
+    types: &mut TypePlaces,
+    ctx: &Context,
+    fill: Fill,
+    ty: TypeHandle,
+) -> Result<Held, AllocError>
+    requires within { ty.0 < length ctx.now.types }
+    requires first_class { IsFirstClass (type_at (type_trees ctx.now.types) ty) }
+    requires places { ArePlacesOf (type_trees ctx.now.types) types.old }
+    ensures is { IfOk result (λ held. IsHeldAs (trees_in types.new) held (filled_term fill (type_at (type_trees ctx.now.types) ty))) }
+    ensures grown { OnOk result (IsGrown (type_trees ctx.now.types) types.old types.new) }
+{
+    if fill.is_own(shape_at(ctx.types(), ty)) {
+        let place = place(alloc, types, ctx, ty)?;
+        Ok(Held::Filled(fill, place))
+    } else {
+        Ok(Held::Int(int_width(ctx, ty), 0))
+    }
+}
+
+/// What an operation that is zero, undef or poison does: it holds that, of the type of its result.
+fn filling(
+    alloc: Global,
+    types: &mut TypePlaces,
+    ctx: &Context,
+    op: OpRef,
+    fill: Fill,
+) -> Result<Action, AllocError>
+    requires here { (h : InContext ctx.now) × (o : DialectOp) × IsOpIn ctx.now h op o × (o.kind ≡ FilledOp fill) }
+    requires places { ArePlacesOf (type_trees ctx.now.types) types.old }
+    ensures is { IfOk result (λ a. (setting : Setting) → (h : InContext ctx.now) → (o : DialectOp) → IsOpIn ctx.now h op o → IsAction (trees_in types.new) a (renamed_action slot_of (dialect.typed_action setting (type_in ctx.now) o (FilledOp fill)))) }
+    ensures grown { OnOk result (IsGrown (type_trees ctx.now.types) types.old types.new) }
+{
+    match ctx.result_type(op) {
+        Some(ty) => {
+            let held = filled(alloc, types, ctx, fill, ty)?;
+            Ok(Action::Holds(held))
+        }
+        None => unreachable!(),
+    }
 }
 
 /// What an operation of a row of the table does: it applies that to its operands.
@@ -195,6 +242,7 @@ fn action(
 {
     match ctx.op_kind(op) {
         OpKind::Constant(value) => Ok(constant(ctx, value)),
+        OpKind::Filled(fill) => filling(alloc, types, ctx, op, *fill),
         OpKind::Row(row) => applied(alloc, types, ctx, op, *row),
         OpKind::Module | OpKind::Func => unreachable!(),
     }

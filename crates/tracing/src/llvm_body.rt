@@ -10,7 +10,7 @@ ghost use Rattle.meaning.specs.Llvm as llvm;
 ghost use Rattle.tracing.specs.TypePlaces.{trees_in, ArePlacesOf, IsGrown};
 ghost use Rattle.tracing.specs.Bodies.{code_of, start_of, IsTypedBlock, IsBlock, AreBlocks};
 ghost use Rattle.tracing.specs.Renamed.{renamed_block, renamed_code};
-ghost use Rattle.tracing.specs.LlvmBodies.{setting_in, slot_of, InChecked, data_in, ArePlacedIn, IsIndexOf, IsBlockIn, slots_of, taken_from, phis_at, params_in, edge_to};
+ghost use Rattle.tracing.specs.LlvmBodies.{setting_in, slot_of, InChecked, data_in, ArePlacedIn, IsIndex, IsBlockIn, slots_of, taken_from, phis_at, params_in, edge_to};
 
 use crate::body::{Block, Body, Edge, Slot, Source};
 use crate::llvm_index::{Index, Phi, index_of};
@@ -113,7 +113,7 @@ fn block(
     requires within { b.0 < length m.now.blocks }
     requires block { (h : InChecked m.now) × (y : lists.Block) × IsBlockIn m.now h b y }
     requires places { ArePlacesOf (trees_of m.now).types types.old }
-    ensures is { IfOk result (λ r. (h : InChecked m.now) → (y : lists.Block) → IsBlockIn m.now h b y → IsIndexOf m.now h index.now → IsBlock (trees_in types.new) (params_in index.now) r (renamed_block slot_of (llvm.block (setting_in m.now) (data_in m.now h) y))) }
+    ensures is { IfOk result (λ r. (h : InChecked m.now) → (y : lists.Block) → IsBlockIn m.now h b y → IsIndex m.now h (trees_in types.old) index.now → IsBlock (trees_in types.new) (params_in index.now) r (renamed_block slot_of (llvm.block (setting_in m.now) (data_in m.now h) y))) }
     ensures grown { OnOk result (IsGrown (trees_of m.now).types types.old types.new) }
 {
     let insts = m.instructions(b);
@@ -133,7 +133,7 @@ fn blocks(
 ) -> Result<Items<Block>, AllocError>
     requires here { (h : InChecked m.now) × (h.number ≡ f.0) }
     requires places { ArePlacesOf (trees_of m.now).types types.old }
-    ensures { IfOk result (λ bs. (h : InChecked m.now) → h.number ≡ f.0 → IsIndexOf m.now h index.now → AreBlocks (trees_in types.new) (params_in index.now) bs (renamed_code slot_of (map (llvm.block (setting_in m.now) (data_in m.now h)) (data_in m.now h).blocks))) }
+    ensures { IfOk result (λ bs. (h : InChecked m.now) → h.number ≡ f.0 → IsIndex m.now h (trees_in types.old) index.now → AreBlocks (trees_in types.new) (params_in index.now) bs (renamed_code slot_of (map (llvm.block (setting_in m.now) (data_in m.now h)) (data_in m.now h).blocks))) }
 {
     let mut blocks = Items::new(alloc);
     for b in m.blocks(f) {
@@ -187,21 +187,23 @@ fn inputs(m: &LLVMModule, f: LLVMFunction) -> Result<u32, AllocError>
     Ok(count as u32)
 }
 
-/// The body of a function of so many parameters, over its index.
+/// The body of a function of so many parameters, over its index, whose types have their places.
 fn body_over(
     alloc: Global,
+    types: TypePlaces,
     m: &LLVMModule,
     f: LLVMFunction,
     inputs: u32,
     index: &Index,
 ) -> Result<Body, AllocError>
-    requires { (h : InChecked m.now) × (h.number ≡ f.0) }
-    ensures code { IfOk result (λ body. (h : InChecked m.now) → h.number ≡ f.0 → IsIndexOf m.now h index.now → code_of (type_trees body.types) body.params body.blocks ≡ renamed_code slot_of (map (llvm.block (setting_in m.now) (data_in m.now h)) (data_in m.now h).blocks)) }
-    ensures typed { IfOk result (λ body. (h : InChecked m.now) → h.number ≡ f.0 → IsIndexOf m.now h index.now → All (IsTypedBlock (length (type_trees body.types))) body.blocks) }
+    requires here { (h : InChecked m.now) × (h.number ≡ f.0) }
+    requires places { ArePlacesOf (trees_of m.now).types types }
+    ensures code { IfOk result (λ body. (h : InChecked m.now) → h.number ≡ f.0 → IsIndex m.now h (trees_in types) index.now → code_of (type_trees body.types) body.params body.blocks ≡ renamed_code slot_of (map (llvm.block (setting_in m.now) (data_in m.now h)) (data_in m.now h).blocks)) }
+    ensures typed { IfOk result (λ body. (h : InChecked m.now) → h.number ≡ f.0 → IsIndex m.now h (trees_in types) index.now → All (IsTypedBlock (length (type_trees body.types))) body.blocks) }
     ensures start { IfOk result (λ body. (h : InChecked m.now) → h.number ≡ f.0 → inputs ≡ llvm.arity (data_in m.now h).type → (k : llvm.Key) → start_of body.holder body.inputs (slot_of k) ≡ llvm.start (data_in m.now h) k) }
 {
     let params = params(alloc, index)?;
-    let mut types = TypePlaces::new(alloc);
+    let mut types = types;
     let blocks = blocks(alloc, &mut types, m, index, f)?;
     Ok(Body {
         types: types.into_table(),
@@ -220,6 +222,7 @@ pub fn llvm_body(alloc: Global, m: &LLVMModule, f: LLVMFunction) -> Result<Body,
     ensures start { IfOk result (λ body. (h : InChecked m.now) → h.number ≡ f.0 → (k : llvm.Key) → start_of body.holder body.inputs (slot_of k) ≡ llvm.start (data_in m.now h) k) }
 {
     let inputs = inputs(m, f)?;
-    let index = index_of(alloc, m, f)?;
-    body_over(alloc, m, f, inputs, &index)
+    let mut types = TypePlaces::new(alloc);
+    let index = index_of(alloc, &mut types, m, f)?;
+    body_over(alloc, types, m, f, inputs, &index)
 }

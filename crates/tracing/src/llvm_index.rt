@@ -1,6 +1,6 @@
 //! What is asked of a function of LLVM for each edge, made once: the place of each block, and what its phis take.
 
-ghost use Rattle.std.specs.Prelude.{◌≡◌, ◌<◌, ◌++◌, ◌∷◌, [], ℕ, List, All, IfOk, OnOk, None, Some, if◌then◌else◌, filter, length, map, nat_eq};
+ghost use Rattle.std.specs.Prelude.{◌≡◌, ◌++◌, ◌∷◌, [], ℕ, List, All, IfOk, OnOk, Option, None, Some, if◌then◌else◌, filter, map, nat_eq};
 ghost use Rattle.std.specs.Option.{option_map};
 ghost use Rattle.indexmap.specs.IndexMap.{get};
 ghost use Rattle.support.specs.Interned.{IsDistinctList};
@@ -9,14 +9,17 @@ ghost use Rattle.llvm_core.specs.Parts.{IsEntry};
 ghost use Rattle.llvm_core.specs.Data.{Placed, entry_of, trees_of};
 ghost use Rattle.llvm_core.specs.Form as form;
 ghost use Rattle.meaning.specs.Llvm as llvm;
-ghost use Rattle.meaning.specs.Pairs.{Matched};
-ghost use Rattle.tracing.specs.Bodies.{source_of};
+ghost use Rattle.meaning.specs.Machine as machine;
+ghost use Rattle.tracing.specs.Types.{Lasts};
+ghost use Rattle.tracing.specs.TypePlaces.{trees_in, ArePlacesOf, IsGrown};
+ghost use Rattle.tracing.specs.Bodies.{IsGiven};
 ghost use Rattle.tracing.specs.Renamed.{renamed};
-ghost use Rattle.tracing.specs.LlvmBodies.{setting_in, slot_of, first_of, operand_in, InChecked, data_in, ArePlacedIn, IsPlacedIn, IsPhiOf, ArePhisOf, IsIndexOf, IsBlockIn};
+ghost use Rattle.tracing.specs.LlvmBodies.{setting_in, slot_of, first_of, operand_in, InChecked, data_in, ArePlacedIn, IsPlacedIn, ArePhis, AreBlockPhis, IsIndex};
 
 use crate::body::{Slot, Source};
 use crate::llvm_rows::source;
 use crate::places::{Places, places_of};
+use crate::type_places::TypePlaces;
 use indexmap::IndexMap;
 use llvm_core::code::{LLVMInst, PhiEntry};
 use llvm_core::module::LLVMModule;
@@ -40,34 +43,42 @@ pub struct Index {
 
 /// Notes an entry of a phi, unless there is an earlier one for its block.
 fn note_entry(
+    alloc: Global,
+    types: &mut TypePlaces,
     m: &LLVMModule,
     incoming: &mut IndexMap<u32, Source>,
     entry: PhiEntry,
 ) -> Result<(), AllocError>
     requires sound { IsModule m.now }
     requires entry { IsEntry m.now entry }
-    ensures { OnOk result ((from : ℕ) → option_map source_of (get nat_eq incoming.new from) ≡ first_of (option_map source_of (get nat_eq incoming.old from)) (if nat_eq entry.block.0 from then Some (operand_in m.now entry.value) else None)) }
+    requires places { ArePlacesOf (trees_of m.now).types types.old }
+    ensures takes { OnOk result ((from : ℕ) → (x : Option (machine.Operand Slot)) → IsGiven (trees_in types.old) (get nat_eq incoming.old from) x → IsGiven (trees_in types.new) (get nat_eq incoming.new from) (first_of x (if nat_eq entry.block.0 from then Some (operand_in m.now entry.value) else None))) }
+    ensures grown { OnOk result (IsGrown (trees_of m.now).types types.old types.new) }
 {
     if incoming.contains_key(&entry.block.0) {
         return Ok(());
     }
-    incoming.insert(entry.block.0, source(m, entry.value))?;
+    let source = source(alloc, types, m, entry.value)?;
+    incoming.insert(entry.block.0, source)?;
     Ok(())
 }
 
 /// What a phi with these entries takes for each block that an edge comes from.
 fn incoming(
     alloc: Global,
+    types: &mut TypePlaces,
     m: &LLVMModule,
     entries: &[PhiEntry],
 ) -> Result<IndexMap<u32, Source>, AllocError>
     requires sound { IsModule m.now }
     requires entries { All (IsEntry m.now) entries.now }
-    ensures { IfOk result (λ incoming. (from : ℕ) → option_map source_of (get nat_eq incoming from) ≡ option_map (renamed slot_of) (llvm.entry_for (setting_in m.now) from (map (entry_of (trees_of m.now)) entries.now))) }
+    requires places { ArePlacesOf (trees_of m.now).types types.old }
+    ensures takes { IfOk result (λ incoming. (from : ℕ) → IsGiven (trees_in types.new) (get nat_eq incoming from) (option_map (renamed slot_of) (llvm.entry_for (setting_in m.now) from (map (entry_of (trees_of m.now)) entries.now)))) }
+    ensures grown { OnOk result (IsGrown (trees_of m.now).types types.old types.new) }
 {
     let mut incoming = IndexMap::new(alloc);
     for entry in entries {
-        note_entry(m, &mut incoming, *entry)?;
+        note_entry(alloc, types, m, &mut incoming, *entry)?;
     }
     Ok(incoming)
 }
@@ -75,16 +86,19 @@ fn incoming(
 /// Appends a phi, where the instruction is one.
 fn push_phi(
     alloc: Global,
+    types: &mut TypePlaces,
     m: &LLVMModule,
     i: LLVMInstRef,
     phis: &mut Items<Phi>,
 ) -> Result<(), AllocError>
-    requires { (h : InChecked m.now) × (b : ℕ) × (p : Placed) × IsPlacedIn m.now h b i p }
-    ensures { OnOk result ((h : InChecked m.now) → (b : ℕ) → (p : Placed) → IsPlacedIn m.now h b i p → (xs : List Placed) → Matched (IsPhiOf m.now) phis.old xs → Matched (IsPhiOf m.now) phis.new (xs ++ filter form.is_phi (p ∷ []))) }
+    requires here { (h : InChecked m.now) × (b : ℕ) × (p : Placed) × IsPlacedIn m.now h b i p }
+    requires places { ArePlacesOf (trees_of m.now).types types.old }
+    ensures phis { OnOk result ((h : InChecked m.now) → (b : ℕ) → (p : Placed) → IsPlacedIn m.now h b i p → (xs : List Placed) → ArePhis m.now (trees_in types.old) phis.old xs → ArePhis m.now (trees_in types.new) phis.new (xs ++ filter form.is_phi (p ∷ []))) }
+    ensures grown { OnOk result (IsGrown (trees_of m.now).types types.old types.new) }
 {
     match m.inst(i) {
         LLVMInst::Phi(_, entries) => {
-            let incoming = incoming(alloc, m, entries.as_slice())?;
+            let incoming = incoming(alloc, types, m, entries.as_slice())?;
             phis.push(Phi {
                 slot: Slot::Result(i.0),
                 incoming,
@@ -95,25 +109,39 @@ fn push_phi(
 }
 
 /// The phis among instructions.
-fn phis(alloc: Global, m: &LLVMModule, insts: &[LLVMInstRef]) -> Result<Items<Phi>, AllocError>
-    requires { (h : InChecked m.now) × (b : ℕ) × (ps : List Placed) × ArePlacedIn m.now h b insts.now ps }
-    ensures { IfOk result (λ xs. (h : InChecked m.now) → (b : ℕ) → (ps : List Placed) → ArePlacedIn m.now h b insts.now ps → ArePhisOf m.now xs ps) }
+fn phis(
+    alloc: Global,
+    types: &mut TypePlaces,
+    m: &LLVMModule,
+    insts: &[LLVMInstRef],
+) -> Result<Items<Phi>, AllocError>
+    requires here { (h : InChecked m.now) × (b : ℕ) × (ps : List Placed) × ArePlacedIn m.now h b insts.now ps }
+    requires places { ArePlacesOf (trees_of m.now).types types.old }
+    ensures phis { IfOk result (λ xs. (h : InChecked m.now) → (b : ℕ) → (ps : List Placed) → ArePlacedIn m.now h b insts.now ps → ArePhis m.now (trees_in types.new) xs (filter form.is_phi ps)) }
+    ensures grown { OnOk result (IsGrown (trees_of m.now).types types.old types.new) }
 {
     let mut phis = Items::new(alloc);
     for i in insts {
-        push_phi(alloc, m, *i, &mut phis)?;
+        push_phi(alloc, types, m, *i, &mut phis)?;
     }
     Ok(phis)
 }
 
 /// The phis of each block of a function.
-fn all_phis(alloc: Global, m: &LLVMModule, f: LLVMFunction) -> Result<Items<Items<Phi>>, AllocError>
-    requires { (h : InChecked m.now) × (h.number ≡ f.0) }
-    ensures { IfOk result (λ xs. (h : InChecked m.now) → h.number ≡ f.0 → Matched (λ xs y. ArePhisOf m.now xs y.instructions) xs (data_in m.now h).blocks) }
+fn all_phis(
+    alloc: Global,
+    types: &mut TypePlaces,
+    m: &LLVMModule,
+    f: LLVMFunction,
+) -> Result<Items<Items<Phi>>, AllocError>
+    requires here { (h : InChecked m.now) × (h.number ≡ f.0) }
+    requires places { ArePlacesOf (trees_of m.now).types types.old }
+    ensures phis { IfOk result (λ all. (h : InChecked m.now) → h.number ≡ f.0 → Lasts (trees_in types.new) (λ trees. AreBlockPhis m.now trees all (data_in m.now h).blocks)) }
+    ensures grown { OnOk result (IsGrown (trees_of m.now).types types.old types.new) }
 {
     let mut all = Items::new(alloc);
     for b in m.blocks(f) {
-        let block_phis = phis(alloc, m, m.instructions(*b))?;
+        let block_phis = phis(alloc, types, m, m.instructions(*b))?;
         all.push(block_phis)?;
     }
     Ok(all)
@@ -131,13 +159,20 @@ fn block_places(alloc: Global, blocks: &[LLVMBasicBlock]) -> Result<Places, Allo
     places_of(alloc, numbers.as_slice())
 }
 
-/// The index of a function.
-pub fn index_of(alloc: Global, m: &LLVMModule, f: LLVMFunction) -> Result<Index, AllocError>
-    requires { (h : InChecked m.now) × (h.number ≡ f.0) }
-    ensures { IfOk result (λ index. (h : InChecked m.now) → h.number ≡ f.0 → IsIndexOf m.now h index) }
+/// The index of a function, where the types of what its phis take get their places.
+pub fn index_of(
+    alloc: Global,
+    types: &mut TypePlaces,
+    m: &LLVMModule,
+    f: LLVMFunction,
+) -> Result<Index, AllocError>
+    requires here { (h : InChecked m.now) × (h.number ≡ f.0) }
+    requires places { ArePlacesOf (trees_of m.now).types types.old }
+    ensures is { IfOk result (λ index. (h : InChecked m.now) → h.number ≡ f.0 → IsIndex m.now h (trees_in types.new) index) }
+    ensures grown { OnOk result (IsGrown (trees_of m.now).types types.old types.new) }
 {
     Ok(Index {
         places: block_places(alloc, m.blocks(f))?,
-        phis: all_phis(alloc, m, f)?,
+        phis: all_phis(alloc, types, m, f)?,
     })
 }

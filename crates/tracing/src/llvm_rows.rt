@@ -11,11 +11,11 @@ ghost use Rattle.meaning.specs.Machine as machine;
 ghost use Rattle.meaning.specs.Llvm as llvm;
 ghost use Rattle.tracing.specs.Types.{AllStand, Stands};
 ghost use Rattle.tracing.specs.TypePlaces.{trees_in, ArePlacesOf, IsGrown};
-ghost use Rattle.tracing.specs.Bodies.{source_of, IsAction, AreRows};
+ghost use Rattle.tracing.specs.Bodies.{IsHeldAs, IsSource, AreSources, IsAction, AreRows};
 ghost use Rattle.tracing.specs.Renamed.{renamed_action};
 ghost use Rattle.tracing.specs.LlvmBodies.{setting_in, slot_of, InChecked, data_in, operand_in, IsUsed, IsPlacedIn, ArePlacedIn, IsRowIn, row_in, rows_in};
 
-use crate::body::{Action, Row, Slot, Source};
+use crate::body::{Action, Held, Row, Slot, Source};
 use crate::llvm_typing::place;
 use crate::trace::Types;
 use crate::type_places::TypePlaces;
@@ -38,27 +38,49 @@ fn int_width(m: &LLVMModule, ty: LLVMType) -> u32
     }
 }
 
-fn constant(m: &LLVMModule, c: LLVMConst) -> Source
+/// A constant, where its type gets a place if it names one.
+fn constant(
+    alloc: Global,
+    types: &mut TypePlaces,
+    m: &LLVMModule,
+    c: LLVMConst,
+) -> Result<Held, AllocError>
     requires sound { IsModule m.now }
     requires within { c.0 < length m.now.consts }
-    ensures { source_of result ≡ machine.Fixed (llvm.const_term (setting_in m.now) (const_at (trees_of m.now).consts c)) }
+    requires places { ArePlacesOf (trees_of m.now).types types.old }
+    ensures is { IfOk result (λ held. IsHeldAs (trees_in types.new) held (llvm.const_term (setting_in m.now) (const_at (trees_of m.now).consts c))) }
+    ensures grown { OnOk result (IsGrown (trees_of m.now).types types.old types.new) }
 {
     match m.const_kind(c) {
-        LLVMConstKind::Int(ty, value) => Source::Int(int_width(m, *ty), *value),
-        LLVMConstKind::Placeholder(..) => Source::Unset,
+        LLVMConstKind::Int(ty, value) => Ok(Held::Int(int_width(m, *ty), *value)),
+        LLVMConstKind::Filled(fill, ty) => {
+            let place = place(alloc, types, m, *ty)?;
+            Ok(Held::Filled(*fill, place))
+        }
+        LLVMConstKind::Placeholder(..) => Ok(Held::Unset),
     }
 }
 
 /// An operand.
-pub fn source(m: &LLVMModule, v: LLVMValue) -> Source
+pub fn source(
+    alloc: Global,
+    types: &mut TypePlaces,
+    m: &LLVMModule,
+    v: LLVMValue,
+) -> Result<Source, AllocError>
     requires sound { IsModule m.now }
     requires value { IsValue m.now v }
-    ensures { source_of result ≡ operand_in m.now v }
+    requires places { ArePlacesOf (trees_of m.now).types types.old }
+    ensures is { IfOk result (λ s. IsSource (trees_in types.new) s (operand_in m.now v)) }
+    ensures grown { OnOk result (IsGrown (trees_of m.now).types types.old types.new) }
 {
     match v {
-        LLVMValue::Const(c) => constant(m, c),
-        LLVMValue::Param(f, place) => Source::At(Slot::Input(f.0, place)),
-        LLVMValue::Inst(i) => Source::At(Slot::Result(i.0)),
+        LLVMValue::Const(c) => {
+            let held = constant(alloc, types, m, c)?;
+            Ok(Source::Fixed(held))
+        }
+        LLVMValue::Param(f, place) => Ok(Source::At(Slot::Input(f.0, place))),
+        LLVMValue::Inst(i) => Ok(Source::At(Slot::Result(i.0))),
     }
 }
 
@@ -95,14 +117,22 @@ fn operand_types(
     Ok(places)
 }
 
-fn sources(alloc: Global, m: &LLVMModule, values: &[LLVMValue]) -> Result<Items<Source>, AllocError>
+fn sources(
+    alloc: Global,
+    types: &mut TypePlaces,
+    m: &LLVMModule,
+    values: &[LLVMValue],
+) -> Result<Items<Source>, AllocError>
     requires sound { IsModule m.now }
     requires values { All (IsValue m.now) values.now }
-    ensures { IfOk result (λ ss. map source_of ss ≡ map (operand_in m.now) values.now) }
+    requires places { ArePlacesOf (trees_of m.now).types types.old }
+    ensures are { IfOk result (λ ss. AreSources (trees_in types.new) ss (map (operand_in m.now) values.now)) }
+    ensures grown { OnOk result (IsGrown (trees_of m.now).types types.old types.new) }
 {
     let mut sources = Items::new(alloc);
     for value in values {
-        sources.push(source(m, *value))?;
+        let source = source(alloc, types, m, *value)?;
+        sources.push(source)?;
     }
     Ok(sources)
 }
@@ -123,7 +153,7 @@ fn action(
     let values = row.operands.as_slice();
     let operand_types = operand_types(alloc, types, m, values)?;
     let result_type = place(alloc, types, m, m.type_of(LLVMValue::Inst(i)))?;
-    let operands = sources(alloc, m, values)?;
+    let operands = sources(alloc, types, m, values)?;
     Ok(Action::Applies {
         op: row.op,
         types: Types {

@@ -10,10 +10,10 @@ ghost use Rattle.llvm_core.specs.Data.{TypeTree, type_at, type_trees};
 ghost use Rattle.tracing.specs.Types.{HasTypesBelow};
 ghost use Rattle.tracing.specs.Table.{HasPartsBelow, HasTypeBelow, node_term};
 ghost use Rattle.tracing.specs.Table as table;
-ghost use Rattle.tracing.specs.Bodies.{same_slot, source_of, action_of, row_of, moves_from, given, params_at, code_of, start_of, IsTypedRow, IsTypedBlock};
-ghost use Rattle.tracing.specs.Runs.{is_built, with_each, IsAt, IsRun, IsRunOver, Names, AllNamed, Keeps, IsJumped, ShowsItem, HasTables, items_of};
+ghost use Rattle.tracing.specs.Bodies.{same_slot, held_term, source_of, action_of, row_of, moves_from, given, params_at, code_of, start_of, IsTypedHeld, IsTypedSource, IsTypedGiven, IsTypedRow, IsTypedEdge, IsTypedBlock};
+ghost use Rattle.tracing.specs.Runs.{is_built, with_each, IsAt, IsRunOver, Names, AllNamed, Keeps, IsJumped, ShowsItem, HasTables, items_of};
 
-use crate::body::{Action, Block, Body, Edge, Row, Slot, Source};
+use crate::body::{Action, Block, Body, Edge, Held, Row, Slot, Source};
 use crate::table::{TermNode, TermTable};
 use crate::trace::{Trace, TraceItem, Types};
 use indexmap::IndexMap;
@@ -73,22 +73,42 @@ fn read_slot(run: &mut Run, slot: Slot) -> Result<u32, AllocError>
     }
 }
 
+/// The node of a constant's term.
+fn node_of(held: Held) -> TermNode
+    ensures parts { (n : ℕ) → HasPartsBelow n result }
+    ensures typed { (n : ℕ) → IsTypedHeld n held → HasTypeBelow n result }
+    ensures term { (trees : List TypeTree) → (ts : List Term) → node_term trees ts result ≡ held_term trees held }
+{
+    match held {
+        Held::Int(width, value) => TermNode::Int(width, value),
+        Held::Filled(fill, ty) => TermNode::Filled(fill, ty),
+        Held::Unset => TermNode::Unset,
+    }
+}
+
+/// The place of a constant's term.
+fn read_held(run: &mut Run, held: Held) -> Result<u32, AllocError>
+    ensures at { IfOk result (λ k. (trees : List TypeTree) → (s : State Slot) → IsTypedHeld (length trees) held → IsAt trees run.old s → IsAt trees run.new s × Names trees run.new.table k (held_term trees held)) }
+    ensures kept { OnOk result ((trees : List TypeTree) → Keeps trees run.old.table run.new.table) }
+{
+    intern(run, node_of(held))
+}
+
 /// The place of an operand's term.
 fn read(run: &mut Run, source: Source) -> Result<u32, AllocError>
-    ensures at { IfOk result (λ k. (trees : List TypeTree) → (s : State Slot) → IsAt trees run.old s → IsAt trees run.new s × Names trees run.new.table k (machine.read s.env (source_of source))) }
+    ensures at { IfOk result (λ k. (trees : List TypeTree) → (s : State Slot) → IsTypedSource (length trees) source → IsAt trees run.old s → IsAt trees run.new s × Names trees run.new.table k (machine.read s.env (source_of trees source))) }
     ensures kept { OnOk result ((trees : List TypeTree) → Keeps trees run.old.table run.new.table) }
 {
     match source {
         Source::At(slot) => read_slot(run, slot),
-        Source::Int(width, value) => intern(run, TermNode::Int(width, value)),
-        Source::Unset => intern(run, TermNode::Unset),
+        Source::Fixed(held) => read_held(run, held),
     }
 }
 
 /// The places of the terms of operands.
 fn read_all(run: &mut Run, sources: &[Source]) -> Result<Vec<u32>, AllocError>
-    requires { IsRun run.old }
-    ensures at { IfOk result (λ ks. (trees : List TypeTree) → (s : State Slot) → IsAt trees run.old s → IsAt trees run.new s × AllNamed trees run.new.table ks.items (map (machine.read s.env) (map source_of sources.now))) }
+    requires { IsRunOver (λ n. All (IsTypedSource n) sources.now) run.old }
+    ensures at { IfOk result (λ ks. (trees : List TypeTree) → (s : State Slot) → All (IsTypedSource (length trees)) sources.now → IsAt trees run.old s → IsAt trees run.new s × AllNamed trees run.new.table ks.items (map (machine.read s.env) (map (source_of trees) sources.now))) }
     ensures within { IfOk result (λ ks. All (λ k. k < length run.new.table) ks.items) }
 {
     let mut places = Vec::new(run.alloc);
@@ -99,11 +119,11 @@ fn read_all(run: &mut Run, sources: &[Source]) -> Result<Vec<u32>, AllocError>
     Ok(places)
 }
 
-/// A value holds an integer.
-fn hold(run: &mut Run, slot: Slot, width: u32, value: u128) -> Result<(), AllocError>
-    ensures { OnOk result ((trees : List TypeTree) → (s : State Slot) → IsAt trees run.old s → IsAt trees run.new (machine.set_in Slot same_slot s slot (terms.Int width value))) }
+/// A value holds a constant.
+fn hold(run: &mut Run, slot: Slot, held: Held) -> Result<(), AllocError>
+    ensures { OnOk result ((trees : List TypeTree) → (s : State Slot) → IsTypedHeld (length trees) held → IsAt trees run.old s → IsAt trees run.new (machine.set_in Slot same_slot s slot (held_term trees held))) }
 {
-    let place = intern(run, TermNode::Int(width, value))?;
+    let place = read_held(run, held)?;
     set(run, slot, place)
 }
 
@@ -181,7 +201,7 @@ fn apply(run: &mut Run, row: &Row) -> Result<(), AllocError>
     ensures { OnOk result ((trees : List TypeTree) → (s : State Slot) → IsTypedRow (length trees) row.now → IsAt trees run.old s → IsAt trees run.new (machine.apply Slot same_slot s row.now.result (action_of trees row.now.action))) }
 {
     match &row.action {
-        Action::Holds(width, value) => hold(run, row.result, *width, *value),
+        Action::Holds(held) => hold(run, row.result, *held),
         Action::Applies {
             op,
             types,
@@ -210,7 +230,8 @@ fn straight(run: &mut Run, rows: &[Row]) -> Result<(), AllocError>
 
 /// What an edge hands to the phi or argument at a place, None where it hands nothing.
 fn given_at(sources: &[Option<Source>], at: usize) -> Option<Source>
-    ensures { option_map source_of result ≡ given sources.now at }
+    ensures source { (trees : List TypeTree) → option_map (source_of trees) result ≡ given trees sources.now at }
+    ensures typed { (n : ℕ) → All (IsTypedGiven n) sources.now → IsTypedGiven n result }
 {
     match sources.get(at) {
         Some(source) => *source,
@@ -220,7 +241,7 @@ fn given_at(sources: &[Option<Source>], at: usize) -> Option<Source>
 
 /// The place of what an edge hands to a phi or argument, which is unset where it hands nothing.
 fn read_given(run: &mut Run, source: Option<Source>) -> Result<u32, AllocError>
-    ensures at { IfOk result (λ k. (trees : List TypeTree) → (s : State Slot) → IsAt trees run.old s → IsAt trees run.new s × Names trees run.new.table k (machine.read_move s.env (option_map source_of source))) }
+    ensures at { IfOk result (λ k. (trees : List TypeTree) → (s : State Slot) → IsTypedGiven (length trees) source → IsAt trees run.old s → IsAt trees run.new s × Names trees run.new.table k (machine.read_move s.env (option_map (source_of trees) source))) }
     ensures kept { OnOk result ((trees : List TypeTree) → Keeps trees run.old.table run.new.table) }
 {
     match source {
@@ -235,7 +256,7 @@ fn read_moves(
     params: &[Slot],
     sources: &[Option<Source>],
 ) -> Result<Vec<u32>, AllocError>
-    ensures at { IfOk result (λ ks. (trees : List TypeTree) → (s : State Slot) → IsAt trees run.old s → IsAt trees run.new s × AllNamed trees run.new.table ks.items (map (λ m. machine.read_move s.env m.1) (moves_from 0 params.now sources.now))) }
+    ensures at { IfOk result (λ ks. (trees : List TypeTree) → (s : State Slot) → All (IsTypedGiven (length trees)) sources.now → IsAt trees run.old s → IsAt trees run.new s × AllNamed trees run.new.table ks.items (map (λ m. machine.read_move s.env m.1) (moves_from trees 0 params.now sources.now))) }
     ensures len { IfOk result (λ ks. length ks.items ≡ length params.now) }
 {
     let mut places = Vec::new(run.alloc);
@@ -259,7 +280,7 @@ fn set_all(run: &mut Run, slots: &[Slot], places: &[u32]) -> Result<(), AllocErr
 
 /// What an edge hands to the phis or arguments of its target, all read before any is set.
 fn move_all(run: &mut Run, params: &[Slot], sources: &[Option<Source>]) -> Result<(), AllocError>
-    ensures { OnOk result ((trees : List TypeTree) → (s : State Slot) → IsAt trees run.old s → IsAt trees run.new (machine.move Slot same_slot s (moves_from 0 params.now sources.now))) }
+    ensures { OnOk result ((trees : List TypeTree) → (s : State Slot) → All (IsTypedGiven (length trees)) sources.now → IsAt trees run.old s → IsAt trees run.new (machine.move Slot same_slot s (moves_from trees 0 params.now sources.now))) }
 {
     let places = read_moves(run, params, sources)?;
     set_all(run, params, places.as_slice())
@@ -277,9 +298,9 @@ fn arrive(run: &mut Run, to: u32, rows: &[Row]) -> Result<(), AllocError>
 
 /// Takes an edge to a block, given the phis or arguments there.
 fn follow(run: &mut Run, edge: &Edge, params: &[Slot], target: &Block) -> Result<(), AllocError>
-    requires { IsRunOver (λ n. IsTypedBlock n target.now) run.old }
-    ensures { OnOk result ((trees : List TypeTree) → (s : State Slot) → IsTypedBlock (length trees) target.now → IsAt trees run.old s
-        → IsAt trees run.new (machine.arrive Slot same_slot (machine.move Slot same_slot s (moves_from 0 params.now edge.now.sources)) edge.now.to (map (row_of trees) target.now.rows))) }
+    requires { IsRunOver (λ n. IsTypedEdge n edge.now × IsTypedBlock n target.now) run.old }
+    ensures { OnOk result ((trees : List TypeTree) → (s : State Slot) → IsTypedEdge (length trees) edge.now → IsTypedBlock (length trees) target.now → IsAt trees run.old s
+        → IsAt trees run.new (machine.arrive Slot same_slot (machine.move Slot same_slot s (moves_from trees 0 params.now edge.now.sources)) edge.now.to (map (row_of trees) target.now.rows))) }
 {
     move_all(run, params, edge.sources.as_slice())?;
     arrive(run, edge.to, target.rows.as_slice())

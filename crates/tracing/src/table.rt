@@ -5,6 +5,7 @@ ghost use Rattle.support.specs.Interned.{IsDistinctList};
 ghost use Rattle.llvm_core.specs.Data.{TypeTree};
 ghost use Rattle.tracing.specs.Table.{terms, node_term, HasPartsBelow, IsGrounded, HasTypeBelow, AreTyped, Gives};
 
+use kinds::fill::Fill;
 use kinds::op::Op;
 use llvm_core::numbers::LLVMType;
 use std::alloc::{AllocError, Global};
@@ -23,6 +24,8 @@ pub enum TermNode {
     Unset,
     /// An integer of a width.
     Int(u32, u128),
+    /// Zero, undef or poison of a type, which is a place of a table of types.
+    Filled(Fill, LLVMType),
     /// An expression of a silent row, whose type is a place of a table of types.
     Expr {
         op: Op,

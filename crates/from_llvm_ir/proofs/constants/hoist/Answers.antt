@@ -7,13 +7,15 @@ use Rattle.llvm_core.specs.Data.{trees_of, operand_of}
 use Rattle.from_llvm_ir.specs.Imported.{constant_in}
 use Rattle.from_llvm_ir.specs.Body.{IsHoisting}
 use Rattle.from_llvm_ir.specs.Source.{IsUsed}
+use Rattle.dialect_types.specs.Trees.{structs_of}
+use Rattle.from_llvm_ir.proofs.ConstLaws.{constant_held, constant_ready}
 use Rattle.from_llvm_ir.proofs.constants.hoist.Goals as goal
 
 pub hoist_constant-requires-clause-sound : goal.hoist_constant-requires-clause-sound
-hoist_constant-requires-clause-sound g c = c.requires.sound
+hoist_constant-requires-clause-sound g c = c.requires.used.2.sound
 
 pub hoist_constant-requires-clause-apart : goal.hoist_constant-requires-clause-apart
-hoist_constant-requires-clause-apart g c = c.requires.apart
+hoist_constant-requires-clause-apart g c = c.requires.used.2.apart
 
 pub hoist_constant-requires-clause-hoisting : goal.hoist_constant-requires-clause-hoisting
 hoist_constant-requires-clause-hoisting g c = c.requires.hoisting
@@ -29,7 +31,15 @@ returns-in-Const-clause-hoisting g c =
     c.hoist_constant.ensures.hoisting
 
 pub hoist_constant-requires-clause-within : goal.hoist_constant-requires-clause-within
-hoist_constant-requires-clause-within g c = let u = c.requires.used in (subst (IsUsed c.args.source.now u.0) c.in-Const.is u.1).valid
+hoist_constant-requires-clause-within g c = let u = c.requires.used in (subst (IsUsed c.args.source.now u.1) c.in-Const.is u.4).valid
 
-pub hoist_constant-requires-clause-short : goal.hoist_constant-requires-clause-short
-hoist_constant-requires-clause-short g c = let u = c.requires.used in (subst (IsUsed c.args.source.now u.0) c.in-Const.is u.1).usable.1.stands
+pub hoist_constant-requires-clause-held : goal.hoist_constant-requires-clause-held
+hoist_constant-requires-clause-held g c =
+    let u = c.requires.used in
+    let v = subst (IsUsed c.args.source.now u.1) c.in-Const.is u.4 in
+    constant_held u.1 _ u.2.held v.usable v.listed
+
+pub hoist_constant-requires-clause-ready : goal.hoist_constant-requires-clause-ready
+hoist_constant-requires-clause-ready g c =
+    let u = c.requires.used in
+    constant_ready u.1 _ (structs_of c.args.ctx.now.types) u.3 (subst (IsUsed c.args.source.now u.1) c.in-Const.is u.4).listed

@@ -7,7 +7,7 @@ use Rattle.llvm_core.specs.Form.{is_phi}
 use Rattle.from_llvm_ir.specs.Imported.{constants_in}
 use Rattle.from_llvm_ir.specs.Body.{IsHoisting, uses_of_inst}
 use Rattle.from_llvm_ir.proofs.SourceLaws.{listed_at, insts_listed, block_within}
-use Rattle.from_llvm_ir.proofs.HoistLaws.{uses_then, block_uses}
+use Rattle.from_llvm_ir.proofs.HoistLaws.{hoisting_ready, uses_then, block_uses}
 use Rattle.from_llvm_ir.proofs.KeepLaws.{keeps_none, keeps_then}
 use Rattle.from_llvm_ir.proofs.constants.hoist_block.Goals as goal
 
@@ -15,7 +15,9 @@ pub hoist_inst-requires-clause-site : goal.hoist_inst-requires-clause-site
 hoist_inst-requires-clause-site g c =
     let r = c.requires.site in
     let x = listed_at c.args.source.now r.1 c.args.from r.2 r.3 c.instructions-i-items.result.now c.loop-i.i-index (record { 0 = 0 }) r.4.sound r.6 c.instructions-i-items.ensures.insts c.loop-i-test.true in
-    (r.0, r.1, r.3, x.0, record { source = r.4; noted = r.5; place = r.2; of_block = r.6; at = c.loop-i.i-index; inst = x.1 })
+    let h = c.requires.hoisting in
+    let ready = hoisting_ready h.0 c.args.source.now r.1 c.args.ctx.now c.loop-i.ctx c.args.values.now c.loop-i.values h.1 _ h.2 (c.loop-i.invariant.hoisting r.0 r.1 r.2 r.3 r.4 r.5 r.6 h.0 h.1 h.2 h.3) r.7 in
+    (r.0, r.1, r.3, x.0, record { source = r.4; noted = r.5; place = r.2; of_block = r.6; at = c.loop-i.i-index; inst = x.1 }, ready)
 
 pub hoist_inst-requires-clause-hoisting : goal.hoist_inst-requires-clause-hoisting
 hoist_inst-requires-clause-hoisting g c =

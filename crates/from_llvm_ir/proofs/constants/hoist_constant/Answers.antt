@@ -17,6 +17,6 @@ returns-clause-hoisting g c =
     on_ok_weaker c.set.result
     (λ noted fr uses h number.
     let made = c.in_ok-op.ensures.made fr.home fr.base _ _ _ (hoisting_open fr c.args.source.now c.args.ctx.now c.args.values.now uses c.args.block h number) in
-    hoisted_more fr c.args.source.now c.args.ctx.now c.add_constant.new.ctx c.args.values.now c.set.new.self uses c.args.c made.0 _ c.args.block h c.requires.apart c.requires.within c.requires.short
+    hoisted_more fr c.args.source.now c.args.ctx.now c.add_constant.new.ctx c.args.values.now c.set.new.self uses c.args.c made.0 _ c.args.block h c.requires.apart c.requires.within c.requires.held
     (none_from _ (sym c.has.ensures ∙ c.if-has.false)) made.2 (ap (λ (n : ℕ). V.Result (record { 0 = n })) (sym made.1)) made.3 c.in_ok-op.ensures.count (made.1 ∙ c.in_ok-op.ensures.number) noted)
     c.set.ensures

@@ -6,6 +6,7 @@ use Rattle.llvm_core.specs.Data.{Block, data_of}
 use Rattle.from_llvm_ir.specs.Imported.{constants_in, rest_of}
 use Rattle.from_llvm_ir.specs.Known.{blocks_of}
 use Rattle.from_llvm_ir.specs.Body.{IsHoisting}
+use Rattle.from_llvm_ir.specs.Types.{IsReadyFor}
 use Rattle.from_llvm_ir.proofs.PlaceLaws.{flat_next}
 use Rattle.from_llvm_ir.proofs.SourceLaws.{function_within}
 use Rattle.from_llvm_ir.proofs.FrameLaws.{named_at, frame_length}
@@ -22,7 +23,8 @@ pub hoist_block-requires-clause-site : goal.hoist_block-requires-clause-site
 hoist_block-requires-clause-site g c =
     let r = c.requires in
     let x = named_at c.args.source.now c.args.f r.0 c.args.order.now c.blocks-blocks.result.now c.loop-place.place-index r.1 r.2 c.blocks-blocks.ensures.blocks c.loop-place-test.true in
-    (c.args.f, r.0.source, _, x.block, r.1.source, r.3, x.is)
+    let structs = (c.loop-place.invariant.hoisting r.0 r.1 r.2 r.3 r.4 r.5).under.structs in
+    (c.args.f, r.0.source, _, x.block, r.1.source, r.3, x.is, subst (IsReadyFor r.0.source) (sym structs) r.1.ready)
 
 pub loop-place-preserved : goal.loop-place-preserved
 loop-place-preserved g c = record {

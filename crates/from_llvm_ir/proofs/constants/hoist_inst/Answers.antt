@@ -17,7 +17,7 @@ pub hoist_values-requires-clause-used : goal.hoist_values-requires-clause-used
 hoist_values-requires-clause-used g c =
     let r = c.requires.site in
     let other = phi_read c.args.source.now r.2 c.args.i r.4.at r.3 c.inst.result.now r.4.inst c.inst.ensures.inst ∙ sym c.is_phi.ensures ∙ c.if-is_phi.false in
-    (r.1, subst (All (IsUsed c.args.source.now r.1)) (sym c.as_slice.ensures) (c.in_ok-used.ensures.used r.0 r.1 r.2 r.3 r.4 other))
+    (r.0, r.1, r.4.source, r.5, subst (All (IsUsed c.args.source.now r.1)) (sym c.as_slice.ensures) (c.in_ok-used.ensures.used r.0 r.1 r.2 r.3 r.4 other))
 
 pub returns-clause-hoisting : goal.returns-clause-hoisting
 returns-clause-hoisting g c =
@@ -51,12 +51,6 @@ pub used_values-requires : goal.used_values-requires
 used_values-requires g c =
     let r = c.requires.site in
     (r.0, r.1, r.2, r.3, r.4, phi_read c.args.source.now r.2 c.args.i r.4.at r.3 c.inst.result.now r.4.inst c.inst.ensures.inst ∙ sym c.is_phi.ensures ∙ c.if-is_phi.false)
-
-pub hoist_values-requires-clause-sound : goal.hoist_values-requires-clause-sound
-hoist_values-requires-clause-sound g c = c.requires.site.4.source.sound
-
-pub hoist_values-requires-clause-apart : goal.hoist_values-requires-clause-apart
-hoist_values-requires-clause-apart g c = c.requires.site.4.source.apart
 
 pub hoist_values-requires-clause-hoisting : goal.hoist_values-requires-clause-hoisting
 hoist_values-requires-clause-hoisting g c = c.requires.hoisting

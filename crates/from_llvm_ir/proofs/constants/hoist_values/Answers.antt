@@ -8,7 +8,7 @@ use Rattle.support.proofs.ListLaws.{take_next}
 use Rattle.llvm_core.specs.Data.{trees_of, operand_of}
 use Rattle.from_llvm_ir.specs.Imported.{constant_in}
 use Rattle.from_llvm_ir.specs.Body.{IsHoisting}
-use Rattle.from_llvm_ir.proofs.HoistLaws.{uses_more}
+use Rattle.from_llvm_ir.proofs.HoistLaws.{hoisting_ready, uses_more}
 use Rattle.from_llvm_ir.proofs.KeepLaws.{keeps_none, keeps_then}
 use Rattle.from_llvm_ir.proofs.constants.hoist_values.Goals as goal
 
@@ -31,7 +31,11 @@ pub returns-in_err-hoist-clause-kept : goal.returns-in_err-hoist-clause-kept
 returns-in_err-hoist-clause-kept g c = λ n b behind. keeps_then n b c.args.ctx.now c.loop-operand.ctx c.hoist.new.ctx (c.loop-operand.invariant.kept n b behind) (c.hoist.ensures.kept n b behind)
 
 pub hoist-requires-clause-used : goal.hoist-requires-clause-used
-hoist-requires-clause-used g c = let u = c.requires.used in (u.0, u.1 c.loop-operand.operand-index _ c.loop-operand-test.true)
+hoist-requires-clause-used g c =
+    let u = c.requires.used in
+    let r = c.requires.hoisting in
+    let ready = hoisting_ready r.0 c.args.source.now u.1 c.args.ctx.now c.loop-operand.ctx c.args.values.now c.loop-operand.values r.1 _ r.2 (c.loop-operand.invariant.hoisting r.0 r.1 r.2 r.3) u.3 in
+    (u.0, u.1, u.2, ready, u.4 c.loop-operand.operand-index _ c.loop-operand-test.true)
 
 pub loop-operand-init : goal.loop-operand-init
 loop-operand-init g c = record {
@@ -46,9 +50,3 @@ returns-clause-hoisting g c = λ fr uses h number.
 
 pub returns-clause-kept : goal.returns-clause-kept
 returns-clause-kept g c = c.loop-operand.invariant.kept
-
-pub hoist-requires-clause-sound : goal.hoist-requires-clause-sound
-hoist-requires-clause-sound g c = c.requires.sound
-
-pub hoist-requires-clause-apart : goal.hoist-requires-clause-apart
-hoist-requires-clause-apart g c = c.requires.apart

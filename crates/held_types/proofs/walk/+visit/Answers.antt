@@ -13,7 +13,7 @@ use Rattle.llvm_core.specs.Depths.{all_nest_at}
 use Rattle.llvm_core.proofs.NoteLemmas.{over_more}
 use Rattle.held_types.specs.Walk.{IsAmong, IsCause, IsIn, IsInFields, IsInKind, Walked}
 use Rattle.held_types.proofs.WalkLaws.{passed_on, on_ok_as, cause_as, walked_as, walked_both, walked_marked, walked_listed}
-use Rattle.held_types.proofs.InsideLaws.{among_here, among_split, among_more, among_last, nests_here, kind_within, within_kind, parts_nest, kind_walked, kind_cause, in_array, array_in, in_vector, vector_in, in_literal, literal_in, in_function, result_in, params_in, in_named, named_in, named_struct, body_nests, among_fields, fields_among}
+use Rattle.held_types.proofs.InsideLaws.{one_here, one_split, one_more, one_last, nests_here, kind_within, within_kind, parts_nest, kind_walked, kind_cause, in_array, array_in, in_vector, vector_in, in_literal, literal_in, in_function, result_in, params_in, in_named, named_in, named_struct, body_nests, among_fields, fields_among}
 use Rattle.held_types.proofs.walk.+visit.Goals as goal
 
 -- ---- the type
@@ -63,7 +63,7 @@ visit_all-returns-in_err-visit-clause-cause t c =
     let ts = c.args.types.now in
     let e = c.in_err-visit.field-0.0 in
     passed_on c.from_residual.result e _ c.from_residual.ensures.1
-    (cause_as (IsIn m _) (IsAmong m ts) (λ u asked h. among_here m ts c.loop-ty.ty-index (record { 0 = 0 }) c.loop-ty-test.true u h) e c.in_err-visit.ensures.cause)
+    (cause_as (IsIn m _) (IsAmong m ts) (one_here (IsIn m) ts c.loop-ty.ty-index (record { 0 = 0 }) c.loop-ty-test.true) e c.in_err-visit.ensures.cause)
 
 pub visit_all-loop-ty-preserved : goal.visit_all-loop-ty-preserved
 visit_all-loop-ty-preserved t c =
@@ -72,7 +72,7 @@ visit_all-loop-ty-preserved t c =
     let i = c.loop-ty.ty-index in
     let lt = c.loop-ty-test.true in
     walked_both m (IsAmong m (take i ts)) (IsIn m _) (IsAmong m (take (i + 1) ts)) c.args.walk.now c.loop-ty.walk c.visit.new.walk c.loop-ty.invariant c.in_ok-visit.ensures.walk
-    (among_split m ts i (record { 0 = 0 }) lt) (λ u asked h. among_more m ts i (record { 0 = 0 }) lt u h) (λ u asked h. among_last m ts i (record { 0 = 0 }) lt u h)
+    (one_split (IsIn m) ts i (record { 0 = 0 }) lt) (one_more (IsIn m) ts i (record { 0 = 0 }) lt) (one_last (IsIn m) ts i (record { 0 = 0 }) lt)
 
 -- ---- the fields of a struct
 

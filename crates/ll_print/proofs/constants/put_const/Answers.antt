@@ -1,11 +1,16 @@
 -- A constant prints the text of its kind.
-use Rattle.std.proofs.Common.{sym}
+use Rattle.std.proofs.Common.{sym, ◌∙◌}
 use Rattle.std.proofs.lemmas.List.{append-nil}
-use Rattle.ll_print.proofs.TextLaws.{ok_is, put_is, const_text-int, const_text-placeholder}
+use Rattle.ll_print.proofs.TextLaws.{ok_is, ok_extended, put_is, const_text-int, const_text-filled, const_text-placeholder}
 use Rattle.ll_print.proofs.constants.put_const.Goals as goal
 
 pub returns-in-Int-clause-text : goal.returns-in-Int-clause-text
 returns-in-Int-clause-text c = ok_is _ _ _ _ _ c.put_typed.ensures.text (const_text-int c.args.m.now c.args.c c.in-Int.ty c.in-Int.value (rw c.in-Int.is at c.const_kind.ensures.kind))
+
+pub returns-in-Filled-clause-text : goal.returns-in-Filled-clause-text
+returns-in-Filled-clause-text c =
+    ok_is _ _ _ _ _ (ok_extended c.extend_from_slice.result _ _ c.filled_word.result.now c.extend_from_slice.ensures.items)
+    (const_text-filled c.args.m.now c.args.c c.in-Filled.fill c.in-Filled.ty (rw c.in-Filled.is at c.const_kind.ensures.kind) ∙ sym c.filled_word.ensures)
 
 pub returns-in-Placeholder-clause-text : goal.returns-in-Placeholder-clause-text
 returns-in-Placeholder-clause-text c =

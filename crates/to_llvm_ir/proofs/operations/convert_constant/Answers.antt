@@ -1,8 +1,9 @@
 -- The constant has the value and the type of the operation's.
 use Rattle.support.proofs.ResultLaws.{both}
 use Rattle.kinds.proofs.HeldLaws.{held_result_if}
+use Rattle.llvm_core.specs.declared.consts.LLVMConstKind.TheVariants as C
 use Rattle.dialect_types.specs.Trees.{type_at, type_trees}
-use Rattle.to_llvm_ir.proofs.OpLaws.{constant_parts, constant_held, constant_type_there, constant_fits}
+use Rattle.to_llvm_ir.proofs.ConstOpLaws.{constant_parts, constant_held, constant_type_there, constant_fits, int_for}
 use Rattle.to_llvm_ir.proofs.StepLaws.{constant_done}
 use Rattle.to_llvm_ir.proofs.operations.convert_constant.Goals as goal
 
@@ -24,6 +25,8 @@ returns c = λ s next.
     let parts = constant_parts c.args.ctx.now c.args.op s c.args.value.now _ _ next.spot c.requires.kind c.parts_of-number.ensures in
     let type = c.in_ok-ty.ensures in
     let made = c.in_ok-c.ensures in
+    let tree = type_at (type_trees c.args.ctx.now.types) c.parts_of-number.result.0 in
+    let const = int_for c.value_type.new.back s.op tree c.parts_of-number.result.1 c.from.result c.in_ok-ty.ty parts type.tree c.from.ensures in
     both c.set.result c.set.ensures.next c.set.ensures.found (λ _.
-    constant_done c.args.ctx.now c.args.op s c.args.values.now c.args.back.now next (type_at (type_trees c.args.ctx.now.types) c.parts_of-number.result.0) c.parts_of-number.result.1 c.from.result c.in_ok-ty.ty c.in_ok-c.c c.value_type.new.back c.const_get.new.self c.set.new.self
-    parts type.tree type.grows type.rest type.data c.from.ensures made.interned made.rest made.data made.sound)
+    constant_done c.args.ctx.now c.args.op s c.args.values.now c.args.back.now next tree (C.Int c.in_ok-ty.ty c.from.result) c.in_ok-c.c c.value_type.new.back c.const_get.new.self c.set.new.self
+    const type.grows type.rest type.data made.interned made.rest made.data made.sound)

@@ -1,14 +1,10 @@
--- A constant and a row have each its function; a module or a function is no operation of a block.
-use Rattle.std.proofs.Common.{◌≡◌, ◌∙◌, ◌++◌, All, true, false, List, [], Some, refl, sym, ap, subst, ⊎_elim}
-use Rattle.std.specs.List.{flat_map}
-use Rattle.std.proofs.lemmas.List.Elements.{All-nil}
+-- Constants and a row have each its function; a module or a function is no operation of a block.
+use Rattle.std.proofs.Common.{◌∙◌, Some, refl, sym, ap, ⊎_elim}
 use Rattle.std.proofs.lemmas.Option.{none-some}
 use Rattle.dialect_types.specs.Trees.{type_trees}
-use Rattle.dialect_core.specs.declared.ops.Value.{Value}
-use Rattle.dialect_core.specs.declared.ops.Successor.{Successor}
 use Rattle.dialect_core.specs.declared.ops.OpKind.TheVariants as K
-use Rattle.to_llvm_ir.specs.Order.{StandsBeforeIn}
-use Rattle.to_llvm_ir.proofs.OpLaws.{op_there, no_spot, constant_bare}
+use Rattle.to_llvm_ir.proofs.OpLaws.{op_there, no_spot}
+use Rattle.to_llvm_ir.proofs.ConstOpLaws.{constant_accepted}
 use Rattle.to_llvm_ir.proofs.operations.convert_op.Goals as goal
 
 pub convert_constant-requires-clause-spot : goal.convert_constant-requires-clause-spot
@@ -34,12 +30,7 @@ place_inst-requires c =
 
 pub returns-in_ok-convert_constant-in-Constant-clause-accepted : goal.returns-in_ok-convert_constant-in-Constant-clause-accepted
 returns-in_ok-convert_constant-in-Constant-clause-accepted c = λ s next mapped.
-    let parts = constant_bare c.args.ctx.now c.args.op s c.in-Constant.value next.spot (c.op_kind.ensures.kind ∙ ap Some c.in-Constant.is) in
-    record {
-      uses = subst (λ (vs : List Value). All (StandsBeforeIn s.task.numbers.order s.task.source s.place s.at) (vs ++ flat_map (λ (e : Successor). e.args) s.op.successors)) (sym parts.0)
-          (subst (λ (es : List Successor). All (StandsBeforeIn s.task.numbers.order s.task.source s.place s.at) ([] ++ flat_map (λ (e : Successor). e.args) es)) (sym parts.1) (All-nil (StandsBeforeIn s.task.numbers.order s.task.source s.place s.at)));
-      named = λ other. absurd (let e : true ≡ false = sym parts.2 ∙ other in cc);
-    }
+    constant_accepted c.args.ctx.now c.args.op s (K.Constant c.in-Constant.value) _ next.spot (c.op_kind.ensures.kind ∙ ap Some c.in-Constant.is) refl refl
 
 pub returns-in-Module-clause-ok : goal.returns-in-Module-clause-ok
 returns-in-Module-clause-ok c = λ s next mapped here. ⊎_elim
@@ -89,3 +80,29 @@ returns-in-Module-clause-accepted c = λ s next mapped. ⊎_elim
     (λ is. absurd (no_spot c.args.ctx.now c.args.op s K.Module next.spot (c.op_kind.ensures.kind ∙ ap Some is) refl))
     (λ is. absurd (no_spot c.args.ctx.now c.args.op s K.Func next.spot (c.op_kind.ensures.kind ∙ ap Some is) refl))
     c.in-Module.is
+
+pub convert_filled-requires-clause-spot : goal.convert_filled-requires-clause-spot
+convert_filled-requires-clause-spot c =
+    let there = op_there (type_trees c.args.ctx.now.types) c.args.ctx.now.ops c.args.op (K.Filled c.in-Filled.fill) _ (c.op_kind.ensures.kind ∙ ap Some c.in-Filled.is) refl in
+    let s = c.requires.spot there.0 there.1 in
+    (s.0, s.1)
+
+pub convert_filled-requires-clause-kind : goal.convert_filled-requires-clause-kind
+convert_filled-requires-clause-kind c = c.op_kind.ensures.kind ∙ ap Some c.in-Filled.is
+
+pub returns-in_ok-convert_filled-in-Filled-clause-accepted : goal.returns-in_ok-convert_filled-in-Filled-clause-accepted
+returns-in_ok-convert_filled-in-Filled-clause-accepted c = λ s next mapped.
+    constant_accepted c.args.ctx.now c.args.op s (K.Filled c.in-Filled.fill) _ next.spot (c.op_kind.ensures.kind ∙ ap Some c.in-Filled.is) refl refl
+
+pub returns-in_ok-convert_filled-in-Filled-clause-skipped : goal.returns-in_ok-convert_filled-in-Filled-clause-skipped
+returns-in_ok-convert_filled-in-Filled-clause-skipped c = λ none.
+    let there = op_there (type_trees c.args.ctx.now.types) c.args.ctx.now.ops c.args.op (K.Filled c.in-Filled.fill) _ (c.op_kind.ensures.kind ∙ ap Some c.in-Filled.is) refl in
+    absurd (none-some there.0 (sym none ∙ there.1))
+
+pub returns-in_err-convert_filled-in-Filled-clause-skipped : goal.returns-in_err-convert_filled-in-Filled-clause-skipped
+returns-in_err-convert_filled-in-Filled-clause-skipped c = λ none.
+    let there = op_there (type_trees c.args.ctx.now.types) c.args.ctx.now.ops c.args.op (K.Filled c.in-Filled.fill) _ (c.op_kind.ensures.kind ∙ ap Some c.in-Filled.is) refl in
+    absurd (none-some there.0 (sym none ∙ there.1))
+
+pub returns-in_ok-convert_filled-in-Filled-clause-ok : goal.returns-in_ok-convert_filled-in-Filled-clause-ok
+returns-in_ok-convert_filled-in-Filled-clause-ok c = λ s next mapped here. c.in_ok-convert_filled-in-Filled.ensures s next

@@ -36,7 +36,7 @@ returns-clause-is c = λ setting h o at.
     let operands = operands_kept x c.args.op o c.op_operands-values.result.now at.here c.op_operands-values.ensures.operands in
     let stand = all_stay _ _ c.in_ok-result_type.ensures.grown.kept _ _ c.in_ok-operand_types.ensures.stand in
     applied_is _ setting (type_in x) o c.args.row (record { result = c.in_ok-result_type.result_type; operands = c.in_ok-operand_types.operand_types }) c.in_ok-operands.operands c.op_operands-values.result.now operands
-    (c.in_ok-result_type.ensures.stands o at.here) stand c.in_ok-operands.ensures
+    (c.in_ok-result_type.ensures.stands o at.here) stand (c.in_ok-operands.ensures _)
 
 pub returns-clause-grown : goal.returns-clause-grown
 returns-clause-grown c = then_grown _ _ _ _ c.in_ok-operand_types.ensures.grown c.in_ok-result_type.ensures.grown

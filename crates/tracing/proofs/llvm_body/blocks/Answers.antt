@@ -25,7 +25,7 @@ loop-b-preserved c = record {
   at = λ h is index.
       let m = c.args.m.now in
       let s = block_at_place m h c.args.f.0 c.blocks-b-items.result.now c.loop-b.b-index is c.blocks-b-items.ensures.blocks c.loop-b-test.true in
-      let made = c.in_ok-made.ensures.is h s.block s.fits index in
+      let made = c.in_ok-made.ensures.is h s.block s.fits (λ later more. index later (λ k t stands. more k t (c.loop-b.invariant.grown.kept k t stands))) in
       let pushed = blocks_push _ (trees_in c.block.new.types) (params_in c.args.index.now) c.loop-b.blocks _ c.in_ok-made.made _ c.in_ok-made.ensures.grown.kept (c.loop-b.invariant.at h is index) made in
       rw c.in_ok-push.ensures.ok
       (subst (AreBlocks (trees_in c.block.new.types) (params_in c.args.index.now) _) (listed_next (λ (y : Block). renamed_block slot_of (block (setting_in m) (data_in m h) y)) (data_in m h).blocks c.loop-b.b-index s.block s.at) pushed);

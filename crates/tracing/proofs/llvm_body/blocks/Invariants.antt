@@ -5,11 +5,11 @@ use Rattle.meaning.specs.Llvm.{block}
 use Rattle.tracing.specs.TypePlaces.{trees_in, IsGrown}
 use Rattle.tracing.specs.Bodies.{AreBlocks}
 use Rattle.tracing.specs.Renamed.{renamed_block}
-use Rattle.tracing.specs.LlvmBodies.{setting_in, slot_of, InChecked, data_in, IsIndexOf, params_in}
+use Rattle.tracing.specs.LlvmBodies.{setting_in, slot_of, InChecked, data_in, IsIndex, params_in}
 use Rattle.tracing.proofs.llvm_body.blocks.Given as goal
 
 abbrev pub invariant-loop-b : goal.invariant-loop-b
 invariant-loop-b l = record {
-  at : (h : InChecked l.m) → h.number ≡ l.fn.f.0 → IsIndexOf l.m h l.index → AreBlocks (trees_in l.types) (params_in l.index) l.blocks (map (λ (y : Block). renamed_block slot_of (block (setting_in l.m) (data_in l.m h) y)) (take l.b-index (data_in l.m h).blocks));
+  at : (h : InChecked l.m) → h.number ≡ l.fn.f.0 → IsIndex l.m h (trees_in l.fn.types) l.index → AreBlocks (trees_in l.types) (params_in l.index) l.blocks (map (λ (y : Block). renamed_block slot_of (block (setting_in l.m) (data_in l.m h) y)) (take l.b-index (data_in l.m h).blocks));
   grown : IsGrown (trees_of l.m).types l.fn.types l.types;
 }

@@ -1,22 +1,18 @@
 -- What `llvm_rows::constant` owes besides what the check finds.
-use Rattle.std.proofs.Common.{Some, ap, sym, ◌∙◌}
-use Rattle.kinds.specs.Held.{width_in}
-use Rattle.llvm_core.specs.Data.{ConstTree, TypeTree}
-use Rattle.llvm_core.proofs.DataLemmas.{int_const_of, placeholder_const_of}
-use Rattle.meaning.specs.Machine.{Operand, Fixed}
-use Rattle.meaning.specs.Terms.{Int}
-use Rattle.meaning.specs.Llvm.{const_term}
-use Rattle.tracing.specs.declared.body.Slot.{Slot}
-use Rattle.tracing.specs.LlvmBodies.{setting_in}
+use Rattle.std.proofs.Common.{Some, ap, subst, ◌∙◌}
+use Rattle.llvm_core.specs.Parts.{IsConstOver}
+use Rattle.tracing.specs.TypePlaces.{trees_in}
+use Rattle.tracing.proofs.LlvmLaws.{int_held, filled_as, placeholder_held}
 use Rattle.tracing.proofs.llvm_rows.constant.Goals as goal
 
-pub returns-in-Int : goal.returns-in-Int
-returns-in-Int c =
-    let m = c.args.m.now in
-    let tree = int_const_of m c.args.c c.in-Int.ty c.in-Int.value (c.const_kind.ensures.kind ∙ ap Some c.in-Int.is) in
-    sym (ap (λ (k : ConstTree). let o : Operand Slot = Fixed (const_term (setting_in m) k) in o) tree ∙ ap (λ (t : TypeTree). let o : Operand Slot = Fixed (Int (width_in t) c.in-Int.value) in o) c.int_width.ensures)
+pub returns-in-Int-clause-is : goal.returns-in-Int-clause-is
+returns-in-Int-clause-is c = int_held c.args.m.now c.requires.sound c.args.c _ c.in-Int.ty c.int_width.result c.in-Int.value (c.const_kind.ensures.kind ∙ ap Some c.in-Int.is) c.int_width.ensures
 
-pub returns-in-Placeholder : goal.returns-in-Placeholder
-returns-in-Placeholder c =
-    let m = c.args.m.now in
-    sym (ap (λ (k : ConstTree). let o : Operand Slot = Fixed (const_term (setting_in m) k) in o) (placeholder_const_of m c.args.c c.in-Placeholder.field-0 c.in-Placeholder.field-1 (c.const_kind.ensures.kind ∙ ap Some c.in-Placeholder.is)))
+pub returns-in_ok-place-in-Filled-clause-is : goal.returns-in_ok-place-in-Filled-clause-is
+returns-in_ok-place-in-Filled-clause-is c =
+    let over = subst (IsConstOver c.args.m.now.types) c.in-Filled.is c.const_kind.ensures.parts in
+    filled_as c.args.m.now c.requires.sound c.args.c (trees_in c.place.new.types) c.in-Filled.fill c.in-Filled.ty c.in_ok-place-in-Filled.place (c.const_kind.ensures.kind ∙ ap Some c.in-Filled.is) over c.in_ok-place-in-Filled.ensures.stands
+
+pub returns-in-Placeholder-clause-is : goal.returns-in-Placeholder-clause-is
+returns-in-Placeholder-clause-is c =
+    placeholder_held c.args.m.now c.requires.sound c.args.c _ c.in-Placeholder.field-0 c.in-Placeholder.field-1 (c.const_kind.ensures.kind ∙ ap Some c.in-Placeholder.is)

@@ -14,7 +14,7 @@ use Rattle.tracing.proofs.run.first.Goals as goal
 
 -- the rows of the first block are typed where all blocks are
 first_typed : (trees : List TypeTree) (bs : List Block) (b : Block) (rows : List Row) → slice_get bs 0 ≡ Some b → rows ≡ b.rows → All (IsTypedBlock (length trees)) bs → All (IsTypedRow (length trees)) rows
-first_typed trees bs b rows here is typed = subst (All (IsTypedRow (length trees))) (sym is) (within_at bs (IsTypedBlock (length trees)) typed 0 b here)
+first_typed trees bs b rows here is typed = subst (All (IsTypedRow (length trees))) (sym is) (within_at bs (IsTypedBlock (length trees)) typed 0 b here).0
 
 pub arrive-requires : goal.arrive-requires
 arrive-requires c =
@@ -29,7 +29,7 @@ returns-in-Some c =
     rw c.and.ensures
     (handed_on c.arrive.result c.arrive.new.run (λ r. (trees : List TypeTree) → All (IsTypedBlock (length trees)) c.args.body.now.blocks → IsAt trees r (M.first Slot same_slot start (code_of trees c.args.body.now.params c.args.body.now.blocks))) _
     (λ f trees typed.
-    subst (IsAt trees c.arrive.new.run) (sym (first_is trees start _ _ c.in-Some.block.now here)) (f trees _ (within_at c.args.body.now.blocks (IsTypedBlock (length trees)) typed 0 c.in-Some.block.now here) (c.in_ok-run.ensures trees)))
+    subst (IsAt trees c.arrive.new.run) (sym (first_is trees start _ _ c.in-Some.block.now here)) (f trees _ (within_at c.args.body.now.blocks (IsTypedBlock (length trees)) typed 0 c.in-Some.block.now here).0 (c.in_ok-run.ensures trees)))
     arrived)
 
 pub returns-in-None : goal.returns-in-None

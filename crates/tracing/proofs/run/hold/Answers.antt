@@ -3,4 +3,4 @@ use Rattle.std.proofs.lemmas.Result.{on_ok_weaker}
 use Rattle.tracing.proofs.run.hold.Goals as goal
 
 pub returns : goal.returns
-returns c = on_ok_weaker c.set.result (λ f trees s h. f trees s _ (c.in_ok-place.ensures.at trees s tt h) (c.in_ok-place.ensures.named trees)) c.set.ensures.at
+returns c = on_ok_weaker c.set.result (λ f trees s typed h. let r = c.in_ok-place.ensures.at trees s typed h in f trees s _ r.0 r.1) c.set.ensures.at

@@ -9,9 +9,9 @@ use Rattle.tracing.proofs.run.read_moves.Goals as goal
 
 pub loop-at-preserved : goal.loop-at-preserved
 loop-at-preserved c = record {
-  at = λ trees s h.
-      let v = c.loop-at.invariant.at trees s h in
-      let n = rw c.given_at.ensures at (c.in_ok-place.ensures.at trees s v.0) in (
+  at = λ trees s typed h.
+      let v = c.loop-at.invariant.at trees s typed h in
+      let n = rw (c.given_at.ensures.source trees) at (c.in_ok-place.ensures.at trees s (c.given_at.ensures.typed _ typed) v.0) in (
         n.0,
         rw c.in_ok-push.ensures.items
             (moves_read trees c.loop-at.run.table c.read_given.new.run.table s.env c.args.params.now c.args.sources.now c.loop-at.at (Input 0 0) c.loop-at.places.items c.in_ok-place.place c.loop-at-test.true (c.in_ok-place.ensures.kept trees) v.1 n.1),
@@ -20,8 +20,8 @@ loop-at-preserved c = record {
 }
 
 pub returns-clause-at : goal.returns-clause-at
-returns-clause-at c = λ trees s h.
-    let v = c.loop-at.invariant.at trees s h in
+returns-clause-at c = λ trees s typed h.
+    let v = c.loop-at.invariant.at trees s typed h in
     let within : length c.args.params.now ≤ c.loop-at.at = omega arith in
-    let all = ap (λ ps. taken s.env (moves_from 0 ps c.args.sources.now)) (take_all c.loop-at.at c.args.params.now within) in
+    let all = ap (λ ps. taken s.env (moves_from trees 0 ps c.args.sources.now)) (take_all c.loop-at.at c.args.params.now within) in
     (v.0, subst (AllNamed trees c.loop-at.run.table c.loop-at.places.items) all v.1)
