@@ -7,7 +7,7 @@ import re
 from names import name_said, text_said
 from value_types import (
     BIT, COUNTS, DEEPEST, FLOATING, LACKED, LENGTHS, MAX_WIDTH, SPACES,
-    Array, Floating, Integer, Lacked, Named, Pointer, Struct, Vector, depth, has_constants, is_element, is_field, is_integer, is_item,
+    Array, Floating, Integer, Lacked, Named, Pointer, Struct, Vector, depth, filled, has_constants, is_element, is_field, is_integer, is_item,
 )
 
 PREDICATES = "eq ne ugt uge ult ule sgt sge slt sle".split()
@@ -193,9 +193,13 @@ class Reader:
         if kind == "local":
             return self.name("local")
         self.at += 1
-        if kind == "word":
-            need(text in ("true", "false") and type == BIT, f"value {text!r}")
+        if kind == "word" and text in ("true", "false"):
+            need(type == BIT, f"value {text!r}")
             return (BIT, int(text == "true"))
+        if kind == "word":
+            found = filled(type, text)
+            need(found, f"value {text!r} of {type}")
+            return found
         need(kind == "number", f"value {text!r}")
         need(has_constants(type), f"a constant of {type}")
         number, width = int(text), type.width

@@ -3,7 +3,7 @@ import re
 
 from some_names import distinct, written
 from value_types import BIT, FLOATING, MAX_CONSTANT, MAX_WIDTH, SPACES
-from value_types import Array, Floating, Integer, Named, Pointer, Struct, Vector, is_integer
+from value_types import Array, Floating, Integer, Named, Pointer, Struct, Vector, has_constants, is_integer
 
 NUMBER = re.compile(r"(0|[1-9][0-9]{0,8})\Z")  # a name of a struct that is written as a number
 
@@ -39,7 +39,10 @@ def short_types(rng):
 
 
 def constant(rng, type):
-    """An integer as it may be written."""
+    """A constant as it may be written: an integer where the type has them."""
+    if not has_constants(type) or rng.random() < 0.2:
+        words = ["undef", "poison"] + (["null"] if isinstance(type, Pointer) else [])
+        return rng.choice(words + (["zeroinitializer"] if has_constants(type) or not is_integer(type) else []))
     if type == BIT:
         return rng.choice(["true", "false", "1", "0", "-1"])
     top = 1 << (type.width - 1)

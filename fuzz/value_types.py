@@ -207,6 +207,18 @@ def is_integer(type):
     return isinstance(type, Integer)
 
 
+FILLS = {"zeroinitializer": "zero", "undef": "undef", "poison": "poison"}  # constants of any type, with their words in the dialect
+
+
+def filled(type, word):
+    """The constant that a word says at a type, none where it says none there: the zero of an integer type is 0."""
+    if word == "null":
+        return (type, "zero") if isinstance(type, Pointer) else None
+    if word == "zeroinitializer" and is_integer(type):
+        return (type, 0) if has_constants(type) else None
+    return (type, FILLS[word]) if word in FILLS else None
+
+
 def has_constants(type):
-    """Whether constants of the type are translated."""
+    """Whether integer constants of the type are translated."""
     return is_integer(type) and type.width <= MAX_CONSTANT
