@@ -30,6 +30,7 @@ module _ (m : Module) where
 
   pub cause_as : (V W : LLVMType → Type 0) (before : List Struct) (given : List Named) (e : ConversionErr) → Implies V W → IsCause m V before given e → IsCause m W before given e
   cause_as V W before given (E.UndefinedValue n v) to h = h
+  cause_as V W before given (E.IntConstTooWide width) to h = h
   cause_as V W before given (E.Unsupported (U.Ty of)) to (t, held, is) = (t, to t held, is)
   cause_as V W before given (E.Struct (S.DifferentBody i)) to h = other_as V W before given i to h
   cause_as V W before given (E.Struct S.NoMemory) to h = h
@@ -73,6 +74,7 @@ module _ (m : Module) where
 
   pub cause_before : (V W : LLVMType → Type 0) (x given : List Named) (old new : List Struct) (e : ConversionErr) → IsLegalised given → GoesOn x given → AddsStructs m V x old new → IsCause m W new given e → IsCause m W old given e
   cause_before V W x given old new (E.UndefinedValue n v) legal goes added h = h
+  cause_before V W x given old new (E.IntConstTooWide width) legal goes added h = h
   cause_before V W x given old new (E.Unsupported (U.Ty of)) legal goes added h = h
   cause_before V W x given old new (E.Struct (S.DifferentBody i)) legal goes added h = other_before V W x given old new i legal goes added h
   cause_before V W x given old new (E.Struct S.NoMemory) legal goes added h = h

@@ -27,6 +27,7 @@ pub record HasOtherStruct (m : Module) (W : LLVMType → Type 0) (before : List 
 -- why a conversion is refused of types of which W holds; want of memory needs no reason
 abbrev pub IsCause : Module → (LLVMType → Type 0) → (before : List Struct) → (given : List Named) → ConversionErr → Type 0
 IsCause m W before given (E.UndefinedValue name v) = ⊥
+IsCause m W before given (E.IntConstTooWide width) = ⊥
 IsCause m W before given (E.Unsupported (U.Ty of)) = (t : LLVMType) × W t × (slice_get m.types t.0 ≡ Some (T.Other of))
 IsCause m W before given (E.Struct (S.DifferentBody identifier)) = HasOtherStruct m W before given identifier
 IsCause m W before given (E.Struct S.NoMemory) = ⊥

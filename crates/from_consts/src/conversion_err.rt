@@ -28,6 +28,9 @@ pub enum ConversionErr {
     /// in another block; or they share a block, and the definition is not ahead of the use.
     #[error("UndefinedValue")]
     UndefinedValue(Text, LLVMValue),
+    /// Of an import alone. An instruction uses an integer constant of this width, which is more than 64 bits.
+    #[error("IntConstTooWide")]
+    IntConstTooWide(u32),
     /// A part that is not translated.
     #[error("Unsupported")]
     Unsupported(Unsupported),
@@ -52,6 +55,7 @@ impl From<HeldErr> for ConversionErr {
     fn from(e: HeldErr) -> ConversionErr {
         match e {
             HeldErr::Lacks(of) => ConversionErr::Unsupported(Unsupported::Ty(of)),
+            HeldErr::TooWide(width) => ConversionErr::IntConstTooWide(width),
             HeldErr::NoMemory => ConversionErr::NoMemory,
         }
     }

@@ -1,5 +1,5 @@
 -- Constants of the source, their types, and the operations that make them.
-use Rattle.std.proofs.Common.{ℕ, suc, ◌≡◌, ◌<◌, ◌≤◌, ◌+◌, ◌++◌, ◌^◌, refl, sym, ap, subst, ◌∙◌, List, Some, None, [], length, map, slice_get, arith}
+use Rattle.std.proofs.Common.{ℕ, suc, ◌≡◌, ◌<◌, ◌≤◌, ◌+◌, ◌++◌, ◌^◌, refl, sym, ap, subst, ◌∙◌, List, Some, None, All, [], length, map, slice_get, arith}
 use Rattle.std.specs.List.{flat_map}
 use Rattle.std.proofs.Math.Nat.{pow-le-pow_right}
 use Rattle.support.proofs.ListLaws.{slice_get-behind}
@@ -11,7 +11,7 @@ use Rattle.llvm_core.specs.declared.code.LLVMValue.TheVariants as V
 use Rattle.llvm_core.specs.Module.{Module}
 use Rattle.llvm_core.specs.Parts as parts
 use Rattle.llvm_core.specs.Sound.{IsModule}
-use Rattle.llvm_core.specs.Form.{IsFormConst, IsHeldFunction, constant_type, constant_types, operands_of, value_types}
+use Rattle.llvm_core.specs.Form.{IsFormConst, IsHeldFunction, IsShortOperand, constant_type, constant_types, operands_of, value_types}
 use Rattle.llvm_core.specs.Data as L
 use Rattle.llvm_core.specs.Data.{ConstTree, IntConst, FilledConst, Placed, Function, trees_of, type_at, const_at, const_type, placed_in}
 use Rattle.llvm_core.proofs.DataLemmas.{within_at, int_const_of, filled_const_of, placeholder_const_of, const_type_of}
@@ -35,12 +35,13 @@ use Rattle.from_llvm_ir.proofs.PlaceLaws.{flat_at}
 -- ---- the kinds of their operations
 
 -- an integer fits a word
-pub const_fits : (m : Module) (c : LLVMConst) (t : LLVMType) (v : ℕ) → slice_get m.consts c.0 ≡ Some (C.Int t v) → IsFormConst (const_at (trees_of m).consts c) → v < 2 ^ 64
+pub const_fits : (m : Module) (c : LLVMConst) (t : LLVMType) (v : ℕ) → slice_get m.consts c.0 ≡ Some (C.Int t v) → IsHeldConst (const_at (trees_of m).consts c) → v < 2 ^ 64
 const_fits m c t v at h =
     let w = width_in (type_at (trees_of m).types t) in
-    let short = subst IsFormConst (int_const_of m c t v at) h in
-    let bound : 2 ^ w ≤ 2 ^ 64 = pow-le-pow_right {n = 2} (omega arith) {i = w} {j = 64} short.0.1 in
-    omega (arith, short.1, bound)
+    let here = subst IsHeldConst (int_const_of m c t v at) h in
+    let bound : 2 ^ w ≤ 2 ^ 64 = pow-le-pow_right {n = 2} (omega arith) {i = w} {j = 64} here.short in
+    let below = here.form.1.0 in
+    omega (arith, below, bound)
 
 int_making : (w v : ℕ) (ty : TypeHandle) → IsMaking (IntConst w v) ty (K.Constant (A.Integer ty v))
 int_making w v ty = record {
@@ -91,7 +92,8 @@ constant_held g c held u l =
     let k = constant_value g c l in
     record {
       form = u.1.stands;
-      held = held_value_type (const_type c) (within_at (value_types g) IsHeldResult held k.0 (const_type c) k.1) (subst IsFirstClass (sym u.1.typed) u.1.first_class);
+      held = held_value_type (const_type c) (within_at (value_types g) IsHeldResult held.types k.0 (const_type c) k.1) (subst IsFirstClass (sym u.1.typed) u.1.first_class);
+      short = within_at (operands_of l.user.instruction) IsShortOperand (within_at (placed_in g) (λ (p : Placed). All IsShortOperand (operands_of p.instruction)) held.constants l.index l.user l.there) l.place (L.Constant c) l.here;
     }
 
 -- and the structs that it names are there

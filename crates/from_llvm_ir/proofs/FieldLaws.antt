@@ -96,7 +96,7 @@ module _ (d : ModuleData) (form : IsForm d) (taken : AreHeld d) where
       where
         by : (o : Option OtherType) → refused_of t ≡ o → refused_of t ≡ None
         by None e = e
-        by (Some of) e = absurd (taken of (field_with i t here of e))
+        by (Some of) e = absurd (taken.types of (field_with i t here of e))
 
     -- each field is of a type that is translated
     pub field_held : (i : ℕ) (t : TypeTree) → slice_get (types_list b.fields) i ≡ Some t → IsHeld t

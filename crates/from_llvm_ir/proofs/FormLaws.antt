@@ -76,7 +76,7 @@ module _ (n : Head) (k : Known) (cs : List DialectBlock) (h : IsWhole k cs) wher
 
   constant_form : (c : ConstTree) (o : DialectOp) → IsHeldConst c → IsConstantOp c o → DF.IsFormOp G o
   constant_form (IntConst w v) o s m = subst (DF.IsFormOp G) (sym m) (record {
-    kind = record { integer = (w, refl, s.form.0, s.form.1); result = refl; bare = refl; ends_here = refl };
+    kind = record { integer = (w, refl, (s.form.0, s.short), s.form.1.0); result = refl; bare = refl; ends_here = refl };
     operands = All-nil _;
     passed = All-nil _;
     result = s.held;

@@ -25,6 +25,7 @@ use Rattle.from_llvm_ir.proofs.PlaceLaws.{flat_at}
 -- among more operands
 pub forward_more : (m : Module) (values : Values) (os us : List L.Operand) (e : ConversionErr) → ((o : L.Operand) → IsIn os o → IsIn us o) → IsForward m values os e → IsForward m values us e
 forward_more m values os us (E.UndefinedValue name v) k h = record { inst = h.inst; value = h.value; row = h.row; at = h.at; named = h.named; used = k (L.Result h.inst.0) h.used; unknown = h.unknown }
+forward_more m values os us (E.IntConstTooWide width) k h = h
 forward_more m values os us (E.Unsupported u) k h = h
 forward_more m values os us (E.Struct s) k h = h
 forward_more m values os us E.NoMemory k h = tt
@@ -46,6 +47,7 @@ forward_unknown m values v i (E.UndefinedValue name w) is unknown within h =
       used = (0, ap (λ (u : LLVMValue). Some (operand_of (trees_of m) u)) is);
       unknown = ap (value_at values) (h.0 ∙ sym is) ∙ unknown;
     }
+forward_unknown m values v i (E.IntConstTooWide width) is unknown within h = h
 forward_unknown m values v i (E.Unsupported u) is unknown within h = h
 forward_unknown m values v i (E.Struct s) is unknown within h = h
 forward_unknown m values v i E.NoMemory is unknown within h = tt

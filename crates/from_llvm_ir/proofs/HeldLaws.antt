@@ -55,7 +55,7 @@ module _ (f : Function) (held : IsHeldFunction f) where
   constants = flat_map constant_types (placed_in f)
 
   behind_result : All IsHeldResult (params_of f.type ++ results ++ constants)
-  behind_result = All-tail IsHeldResult (result_of f.type) (params_of f.type ++ results ++ constants) held
+  behind_result = All-tail IsHeldResult (result_of f.type) (params_of f.type ++ results ++ constants) held.types
 
   params_all : All IsHeldResult (params_of f.type)
   params_all = front_all IsHeldResult (params_of f.type) results (front_all IsHeldResult (params_of f.type ++ results) constants behind_result)
@@ -68,7 +68,7 @@ module _ (f : Function) (held : IsHeldFunction f) where
 
 module _ (f : Function) (form : IsFormFunction f) (held : IsHeldFunction f) where
   pub returns_held : IsHeldResult form.result
-  returns_held = subst (λ (t : TypeTree). IsHeldResult (result_of t)) form.type (All-head IsHeldResult (result_of f.type) (params_of f.type ++ results f held ++ constants f held) held)
+  returns_held = subst (λ (t : TypeTree). IsHeldResult (result_of t)) form.type (All-head IsHeldResult (result_of f.type) (params_of f.type ++ results f held ++ constants f held) held.types)
 
   pub takes_held : All IsHeld (types_list form.types)
   takes_held = both_held (types_list form.types) (subst (λ (t : TypeTree). All IsHeldResult (params_of t)) form.type (params_all f held)) form.takes

@@ -145,6 +145,7 @@ begun_with m old between new none root functions =
 -- what refuses a function refuses the module
 pub function_cause : (m : Module) (f : LLVMFunction) (g : L.Function) (e : ConversionErr) → IsSource m f g → IsRefusalOfFunction g e → IsRefusalOfFunctions (source_of m) e
 function_cause m f g (E.UndefinedValue name v) h refused = record { place = f.0; f = g; at = h.at; refused = refused }
+function_cause m f g (E.IntConstTooWide width) h refused = absurd refused
 function_cause m f g (E.Unsupported u) h refused = absurd refused
 function_cause m f g (E.Struct s) h refused = absurd refused
 function_cause m f g E.NoMemory h refused = tt

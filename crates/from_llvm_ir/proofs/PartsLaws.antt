@@ -120,6 +120,7 @@ module _ (m source : Module) (pairs : StructNames) (names : AreStructNames pairs
     where
       by : (e : ConversionErr) → IsRefusalOfFunctions (renamed_module (struct_name pairs) (data_of m)) e → IsCauseAfter met held (data_of m) e
       by (E.UndefinedValue name v) h = renamed_use (struct_name pairs) (data_of m) name v h
+      by (E.IntConstTooWide width) h = absurd h
       by (E.Unsupported u) h = absurd h
       by (E.Struct s) h = absurd h
       by E.NoMemory h = tt
@@ -202,6 +203,7 @@ imported_seen m given c i body name legal begins gave regions symbols few struct
 -- what stopped the import behind the first names is why it refuses the module
 pub cause_after : (m : Module) (old start : List Named) (held before : List Struct) → old ≡ [] → HasMet old start (m.name ∷ []) → held ≡ before → (e : ConversionErr) → IsCauseAfter start held (data_of m) e → IsCause before (data_of m) e
 cause_after m old start held before none root is (E.UndefinedValue name v) h = h
+cause_after m old start held before none root is (E.IntConstTooWide width) h = absurd h
 cause_after m old start held before none root is (E.Unsupported u) h = absurd h
 cause_after m old start held before none root is (E.Struct (S.DifferentBody identifier)) h = record {
   given = h.given;

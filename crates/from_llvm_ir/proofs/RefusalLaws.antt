@@ -170,6 +170,7 @@ module _ (fr : Frame) (m : Module) (f : LLVMFunction) (targets : Targets) (entri
           early = early_use u.inst u.row u.at (ap (λ (y : LLVMValue). value_at values y) (sym u.value) ∙ u.unknown) is_in;
           named = u.named ∙ name_found m f g u.inst u.row h.framed.source usable.1.stands u.at;
         }
+    late os (E.IntConstTooWide width) more u = u
     late os (E.Unsupported t) more u = u
     late os (E.Struct s) more u = u
     late os E.NoMemory more u = tt

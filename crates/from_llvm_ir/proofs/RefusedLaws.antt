@@ -1,5 +1,6 @@
--- Where no value's type is or holds one for which the dialect has none, the types of all values of a module of the form are held.
-use Rattle.std.proofs.Common.{ℕ, zero, suc, ◌≡◌, ◌∙◌, refl, sym, ap, subst, List, ◌++◌, Option, Some, None, All, map, slice_get}
+-- Where no value's type is or holds one for which the dialect has none, and no constant is too wide, the types of all values of
+-- a module of the form are held, and its constants short.
+use Rattle.std.proofs.Common.{ℕ, zero, suc, ◌≡◌, ◌≤◌, ◌∙◌, nat_le, leb-true, leb-false, refl, sym, ap, subst, Bool, true, false, List, ◌++◌, Option, Some, None, All, map, slice_get}
 use Rattle.std.specs.List.{flat_map}
 use Rattle.std.specs.Option.{option_map}
 use Rattle.std.proofs.lemmas.List.Elements.{All-cons, All-append, All-map, All-weaker}
@@ -14,26 +15,37 @@ use Rattle.kinds.proofs.RenamedLaws.{refused_held}
 use Rattle.llvm_core.specs.Data as L
 use Rattle.llvm_core.specs.Data.{Placed, Function, const_type, operand_type, placed_in}
 use Rattle.llvm_core.specs.Form as LF
-use Rattle.llvm_core.specs.Form.{IsFormFunction, IsHeldFunction, constant_type, constant_types, value_types}
+use Rattle.llvm_core.specs.Form.{IsFormFunction, IsHeldFunction, IsShortOperand, constant_type, constant_types, value_types}
 use Rattle.llvm_core.proofs.DataLemmas.{within_at}
-use Rattle.held_types.specs.Held.{AreHeld, HasTypeWith}
+use Rattle.held_types.specs.Held.{AreHeld, IsRefusalOf}
 use Rattle.held_types.specs.declared.held_structs.HeldErr.{HeldErr}
 use Rattle.held_types.specs.declared.held_structs.HeldErr.TheVariants as H
+use Rattle.from_consts.specs.declared.conversion_err.ConversionErr.{ConversionErr}
+use Rattle.from_consts.specs.declared.conversion_err.ConversionErr.TheVariants as E
 use Rattle.from_consts.specs.declared.conversion_err.Unsupported.{Unsupported}
 use Rattle.from_consts.specs.declared.conversion_err.Unsupported.TheVariants as U
 use Rattle.renamed_source.proofs.FormLaws.{get_from}
-use Rattle.from_llvm_ir.specs.Refusals.{IsCause, IsUnsupported}
+use Rattle.from_llvm_ir.specs.Refusals.{IsCause, IsEarly, IsUnsupported}
 use Rattle.from_consts.specs.Forward.{of_held}
 use Rattle.from_llvm_ir.proofs.PlaceLaws.{flat_from}
 
 -- so it is not refused for one
 pub held_unsupported : (d : L.ModuleData) → AreHeld d → (u : Unsupported) → IsUnsupported d u → ⊥
-held_unsupported d held (U.Ty of) h = held of h
+held_unsupported d held (U.Ty of) h = held.types of h
 
--- and a type that it lacks is why it refuses
-pub held_cause : (d : L.ModuleData) (structs : List Struct) (e : HeldErr) → ((of : OtherType) → e ≡ H.Lacks of → HasTypeWith d (RefusedType of)) → IsCause structs d (of_held e)
-held_cause d structs (H.Lacks of) lacks = lacks of refl
-held_cause d structs H.NoMemory lacks = tt
+-- nor before anything is made
+pub held_late : (d : L.ModuleData) (structs : List Struct) → AreHeld d → (e : ConversionErr) → IsCause structs d e → IsEarly e → ⊥
+held_late d structs held (E.UndefinedValue name v) h early = early
+held_late d structs held (E.IntConstTooWide width) h early = held.constants width h
+held_late d structs held (E.Unsupported u) h early = held_unsupported d held u h
+held_late d structs held (E.Struct s) h early = early
+held_late d structs held E.NoMemory h early = early
+
+-- and what is not held is why it refuses
+pub held_cause : (d : L.ModuleData) (structs : List Struct) (e : HeldErr) → IsRefusalOf d e → IsCause structs d (of_held e)
+held_cause d structs (H.Lacks of) unheld = unheld
+held_cause d structs (H.TooWide width) unheld = unheld
+held_cause d structs H.NoMemory unheld = tt
 
 -- ---- types of values that the form allows
 
@@ -91,10 +103,25 @@ module _ (d : L.ModuleData) (held : AreHeld d) (place : ℕ) (f : Function) (at 
     where
       by : (o : Option OtherType) → refused_of t ≡ o → refused_of t ≡ None
       by None is = is
-      by (Some of) is = absurd (held of (record { place = place; f = f; at = at; index = index; type = t; here = here; holds = refused_held d.structs t of is }))
+      by (Some of) is = absurd (held.types of (record { place = place; f = f; at = at; index = index; type = t; here = here; holds = refused_held d.structs t of is }))
+
+  -- nor is a constant too wide
+  operand_short : (index : ℕ) (p : Placed) → slice_get (placed_in f) index ≡ Some p → (j : ℕ) (o : L.Operand) → slice_get (LF.operands_of p.instruction) j ≡ Some o → IsShortOperand o
+  operand_short index p here j (L.Constant (L.IntConst w v)) used = by (nat_le w 64) refl
+    where
+      by : (b : Bool) → nat_le w 64 ≡ b → w ≤ 64
+      by true e = leb-true w 64 e
+      by false e = absurd (held.constants w (record { place = place; f = f; at = at; index = index; p = p; here = here; operand = j; value = v; used = used; wide = leb-false w 64 e }))
+  operand_short index p here j (L.Constant (L.FilledConst fill t)) used = tt
+  operand_short index p here j (L.Constant (L.PlaceholderConst n t)) used = tt
+  operand_short index p here j (L.Parameter g i) used = tt
+  operand_short index p here j (L.Result n) used = tt
 
   function_held : IsHeldFunction f
-  function_held = all_from IsHeldResult (value_types f) (λ k t here. value_held k t here (within_at (value_types f) IsReturned (values_returned f form) k t here))
+  function_held = record {
+    types = all_from IsHeldResult (value_types f) (λ k t here. value_held k t here (within_at (value_types f) IsReturned (values_returned f form) k t here));
+    constants = all_from (λ (p : Placed). All IsShortOperand (LF.operands_of p.instruction)) (placed_in f) (λ k p here. all_from IsShortOperand (LF.operands_of p.instruction) (operand_short k p here));
+  }
 
 pub form_held : (d : L.ModuleData) → All IsFormFunction d.functions → AreHeld d → All IsHeldFunction d.functions
 form_held d form held = all_from IsHeldFunction d.functions (λ k f at. function_held d held k f at (within_at d.functions IsFormFunction form k f at))

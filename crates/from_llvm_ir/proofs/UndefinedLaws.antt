@@ -213,6 +213,7 @@ module _ (g : L.Function) (form : LF.IsFormFunction g) where
   pub refused : (order places : List ℕ) → HasDominatedUses g → IsOrder (length (graph_of g)) order → HasReachedFirst (graph_of g) order → HasPassedBefore (graph_of g) order → IsInverse order places
       → (e : ConversionErr) → IsLate g places e → IsRefusalOfFunction g e
   refused order places dominated is reached before inverse (E.UndefinedValue name v) h = record { inst = h.inst; value = h.value; undefined = undefined places h.inst.0 h.early order dominated is reached before inverse; named = h.named }
+  refused order places dominated is reached before inverse (E.IntConstTooWide width) h = h
   refused order places dominated is reached before inverse (E.Unsupported u) h = h
   refused order places dominated is reached before inverse (E.Struct s) h = h
   refused order places dominated is reached before inverse E.NoMemory h = tt

@@ -158,6 +158,7 @@ pub record IsBegun (fr : Frame) (m : Module) (f : LLVMFunction) (targets : Targe
 -- why an import stops in a function whose blocks have these places
 abbrev pub IsLate : L.Function → (places : List ℕ) → ConversionErr → Type 0
 IsLate g places (E.UndefinedValue name v) = IsRefused g places name v
+IsLate g places (E.IntConstTooWide width) = ⊥
 IsLate g places (E.Unsupported u) = ⊥
 IsLate g places (E.Struct s) = ⊥
 IsLate g places E.NoMemory = Unit {0}

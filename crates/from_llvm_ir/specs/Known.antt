@@ -6,7 +6,7 @@ use Rattle.llvm_core.specs.Module.{Module}
 use Rattle.llvm_core.specs.Parts.{IsValue}
 use Rattle.llvm_core.specs.Data as L
 use Rattle.llvm_core.specs.Data.{ConstTree, IntConst, FilledConst, PlaceholderConst, Placed, const_type, trees_of, operand_of}
-use Rattle.llvm_core.specs.Form.{IsFormConst}
+use Rattle.llvm_core.specs.Form.{IsFormConst, IsShortConst}
 use Rattle.kinds.specs.Held.{IsHeld}
 use Rattle.dialect_types.specs.declared.types.TypeHandle.{TypeHandle}
 use Rattle.dialect_types.specs.Trees.{TypeTree, IntegerAttr, IntType, type_at}
@@ -90,10 +90,11 @@ pub record IsMaking (c : ConstTree) (ty : TypeHandle) (kind : OpKind) : Type 0 w
   pub types : (n : ℕ) → ty.0 < n → HasKindTypesBelow n kind
   pub makes : (ts : List TypeTree) → type_at ts ty ≡ const_type c → (k : Kind) × (kind_of ts kind ≡ Some k) × ((n : ℕ) → IsConstantOp c (new_op n None k [] [] (Some (type_at ts ty))))
 
--- a constant of the form, of a type that is translated
+-- a constant of the form that is translated: of a type that is, and where it is an integer of at most 64 bits
 pub record IsHeldConst (c : ConstTree) : Type 0 where
   pub form : IsFormConst c
   pub held : IsHeld (const_type c)
+  pub short : IsShortConst c
 
 -- the value is of an operation from `split` up to n, or one of the first arguments of the block `at`, or one of a
 -- block before

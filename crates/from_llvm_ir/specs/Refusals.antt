@@ -9,7 +9,7 @@ use Rattle.llvm_core.specs.declared.code.LLVMValue.TheVariants as V
 use Rattle.dialect_types.specs.Legalised.{Named}
 use Rattle.dialect_types.specs.declared.struct_err.StructErr.{StructErr}
 use Rattle.dialect_types.specs.declared.struct_err.StructErr.TheVariants as S
-use Rattle.held_types.specs.Held.{HasTypeWith}
+use Rattle.held_types.specs.Held.{HasTypeWith, HasWideConst}
 use Rattle.from_consts.specs.declared.conversion_err.ConversionErr.{ConversionErr}
 use Rattle.from_consts.specs.declared.conversion_err.ConversionErr.TheVariants as E
 use Rattle.from_consts.specs.declared.conversion_err.Unsupported.{Unsupported}
@@ -25,9 +25,10 @@ pub record IsRefusedUse (f : L.Function) (name : List ℕ) (v : LLVMValue) : Typ
   pub undefined : IsUndefined f inst.0
   pub named : name ≡ name_in f inst.0
 
--- why a function is refused whose types are held; want of memory needs no reason
+-- why a function is refused that is held; want of memory needs no reason
 abbrev pub IsRefusalOfFunction : L.Function → ConversionErr → Type 0
 IsRefusalOfFunction f (E.UndefinedValue name v) = IsRefusedUse f name v
+IsRefusalOfFunction f (E.IntConstTooWide width) = ⊥
 IsRefusalOfFunction f (E.Unsupported u) = ⊥
 IsRefusalOfFunction f (E.Struct s) = ⊥
 IsRefusalOfFunction f E.NoMemory = Unit {0}
@@ -39,9 +40,10 @@ pub record HasUndefinedUse (d : L.ModuleData) (name : List ℕ) (v : LLVMValue) 
   pub at : slice_get d.functions place ≡ Some f
   pub refused : IsRefusedUse f name v
 
--- why functions of a module are refused whose types are held
+-- why functions of a module are refused that are held
 abbrev pub IsRefusalOfFunctions : L.ModuleData → ConversionErr → Type 0
 IsRefusalOfFunctions d (E.UndefinedValue name v) = HasUndefinedUse d name v
+IsRefusalOfFunctions d (E.IntConstTooWide width) = ⊥
 IsRefusalOfFunctions d (E.Unsupported u) = ⊥
 IsRefusalOfFunctions d (E.Struct s) = ⊥
 IsRefusalOfFunctions d E.NoMemory = Unit {0}
@@ -58,6 +60,7 @@ IsStructCause before d S.NoMemory = ⊥
 -- why an import into a context that had these structs before refuses a module whose data are d; want of memory needs no reason
 abbrev pub IsCause : (before : List Struct) → L.ModuleData → ConversionErr → Type 0
 IsCause before d (E.UndefinedValue name v) = HasUndefinedUse d name v
+IsCause before d (E.IntConstTooWide width) = HasWideConst d width
 IsCause before d (E.Unsupported u) = IsUnsupported d u
 IsCause before d (E.Struct s) = IsStructCause before d s
 IsCause before d E.NoMemory = Unit {0}
@@ -65,10 +68,19 @@ IsCause before d E.NoMemory = Unit {0}
 -- the same once the first names were met, which were these
 abbrev pub IsCauseAfter : List Named → (before : List Struct) → L.ModuleData → ConversionErr → Type 0
 IsCauseAfter names before d (E.UndefinedValue name v) = HasUndefinedUse d name v
+IsCauseAfter names before d (E.IntConstTooWide width) = ⊥
 IsCauseAfter names before d (E.Unsupported u) = ⊥
 IsCauseAfter names before d (E.Struct (S.DifferentBody identifier)) = HasOtherAfter names before d identifier
 IsCauseAfter names before d (E.Struct S.NoMemory) = ⊥
 IsCauseAfter names before d E.NoMemory = Unit {0}
+
+-- refusals that come before anything is made
+abbrev pub IsEarly : ConversionErr → Type 0
+IsEarly (E.UndefinedValue name v) = ⊥
+IsEarly (E.IntConstTooWide width) = Unit {0}
+IsEarly (E.Unsupported u) = Unit {0}
+IsEarly (E.Struct s) = ⊥
+IsEarly E.NoMemory = ⊥
 
 -- in each function each use is valid
 abbrev pub IsValid : L.ModuleData → Type 0

@@ -24,7 +24,7 @@ use Rattle.from_llvm_ir.specs.declared.entries.Entries.{Entries}
 use Rattle.from_llvm_ir.specs.contracts.entries.EntryPartialEq.TheImpl as keys
 use Rattle.from_llvm_ir.specs.Imported.{passed}
 
--- the function of that number is g, of the form, and its types are held
+-- the function of that number is g, of the form, and it is held
 pub record IsSource (m : Module) (f : LLVMFunction) (g : L.Function) : Type 0 where
   pub sound : IsModule m
   pub apart : AreApart m

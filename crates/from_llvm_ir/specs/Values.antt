@@ -45,6 +45,7 @@ pub record IsUnknown (m : Module) (values : Values) (among : List L.Operand) (na
 -- why one of the operands was refused; want of memory needs no reason
 abbrev pub IsForward : Module → Values → List L.Operand → ConversionErr → Type 0
 IsForward m values used (E.UndefinedValue name v) = IsUnknown m values used name v
+IsForward m values used (E.IntConstTooWide width) = ⊥
 IsForward m values used (E.Unsupported u) = ⊥
 IsForward m values used (E.Struct s) = ⊥
 IsForward m values used E.NoMemory = Unit {0}
@@ -52,6 +53,7 @@ IsForward m values used E.NoMemory = Unit {0}
 -- the refusal of the result of an instruction, by its name; or want of memory
 abbrev pub IsRefusalOf : Module → LLVMInstRef → ConversionErr → Type 0
 IsRefusalOf m i (E.UndefinedValue name v) = (v ≡ V.Inst i) × (option_map (λ (x : InstData). x.name) (slice_get m.insts i.0) ≡ Some name)
+IsRefusalOf m i (E.IntConstTooWide width) = ⊥
 IsRefusalOf m i (E.Unsupported u) = ⊥
 IsRefusalOf m i (E.Struct s) = ⊥
 IsRefusalOf m i E.NoMemory = Unit {0}

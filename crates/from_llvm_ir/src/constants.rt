@@ -3,7 +3,6 @@
 ghost use Rattle.std.specs.Prelude.{◌≡◌, ◌<◌, ◌≤◌, ◌+◌, ◌∷◌, ◌++◌, [], List, ℕ, IfOk, OnOk, All, length, map};
 ghost use Rattle.std.specs.List.{filter_map, flat_map};
 ghost use Rattle.llvm_core.specs.Sound.{IsModule};
-ghost use Rattle.llvm_core.specs.Form.{IsFormConst};
 ghost use Rattle.llvm_core.specs.Data.{AreApart, Block, ConstTree, Function, Placed, trees_of, const_at, const_type, operand_of, data_of};
 ghost use Rattle.dialect_types.specs.Trees.{structs_of};
 ghost use Rattle.dialect_core.specs.Data.{DialectBlock, DialectOp};
@@ -38,7 +37,7 @@ use support::short_list::ShortList;
 /// The kind of an operation that makes a constant with a result of that type: a line for each kind of constant.
 fn constant_kind(source: &Source<'_>, c: LLVMConst, ty: TypeHandle) -> OpKind
     requires within { c.0 < length source.now.consts }
-    requires form { IsFormConst (const_at (trees_of source.now).consts c) }
+    requires held { IsHeldConst (const_at (trees_of source.now).consts c) }
     ensures { IsMaking (const_at (trees_of source.now).consts c) ty result }
 {
     match source.const_kind(c) {

@@ -21,11 +21,9 @@ ghost use Rattle.from_llvm_ir.specs.Imported.{IsBuilding, IsImported, imported_d
 ghost use Rattle.from_llvm_ir.specs.Importing.{IsImportedTo};
 ghost use Rattle.from_llvm_ir.specs.Keeping.{Keeps, Leaves, AreOthersKept};
 ghost use Rattle.from_llvm_ir.specs.Naming.{ForLater, HasMet, HasMetFirst};
-ghost use Rattle.from_llvm_ir.specs.Refusals.{IsCause, IsCauseAfter, IsRefusalOfFunctions};
+ghost use Rattle.from_llvm_ir.specs.Refusals.{IsCause, IsCauseAfter, IsEarly, IsRefusalOfFunctions};
 ghost use Rattle.from_llvm_ir.specs.Types.{IsReadyFor};
 ghost use Rattle.from_llvm_ir.specs.Structs.{AddsOnly, AreNamed, IsStructMatch, identifiers};
-ghost use Rattle.from_consts.specs.declared.conversion_err.ConversionErr.TheVariants as refusals;
-ghost use Rattle.from_consts.specs.declared.conversion_err.Unsupported.{Unsupported};
 ghost use Rattle.from_llvm_ir.specs.Building.{module_named};
 ghost use Rattle.renamed_source.specs.Source.{pairs_of};
 
@@ -241,9 +239,10 @@ fn make_room(ctx: &mut Context, source: &LLVMModule)
 /// The context may be any. All that it held stays, whatever is answered: its types, its operations and where they stand,
 /// its blocks and what they list. Where its numbers of types are there, they stay there, and each of its modules has the
 /// data that it had. After a refusal the context may hold more operations, blocks and types.
-/// Refuses a module that has values whose type is, or holds, one for which the dialect has none, `Unsupported`, and leaves the
-/// context as it was; a struct whose identifier the context has with another body, `Struct`; and a function that uses the
-/// result of an instruction where it is not defined: `UndefinedValue`.
+/// Refuses a module that has values whose type is, or holds, one for which the dialect has none, `Unsupported`, or that uses an
+/// integer constant of more than 64 bits, `IntConstTooWide`, and leaves the context as it was; a struct whose identifier the
+/// context has with another body, `Struct`; and a function that uses the result of an instruction where it is not defined:
+/// `UndefinedValue`.
 pub fn convert_module(
     alloc: Global,
     ctx: &mut Context,
@@ -257,7 +256,7 @@ pub fn convert_module(
     ensures number { IfOk result (λ i. i.«module».0.0 ≡ length ctx.old.ops) }
     ensures held { IfOk result (λ i. AreHeld (data_of «module».now)) }
     ensures cause { IfErr result (λ e. IsCause (structs_of ctx.old.types) (data_of «module».now) e) }
-    ensures still { (u : Unsupported) → result ≡ Err (refusals.Unsupported u) → ctx.new ≡ ctx.old }
+    ensures still { IfErr result (λ e. IsEarly e → ctx.new ≡ ctx.old) }
     ensures others { AreOthersKept ctx.old ctx.new }
     ensures typed { IsTyped ctx.old → IsTyped ctx.new }
 {

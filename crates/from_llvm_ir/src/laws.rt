@@ -3,7 +3,7 @@
 ghost use Rattle.std.specs.Prelude.{ℕ, List};
 ghost use Rattle.llvm_core.specs.declared.code.LLVMValue.{LLVMValue};
 ghost use Rattle.llvm_core.specs.Data.{ModuleData};
-ghost use Rattle.held_types.specs.Held.{AreHeld};
+ghost use Rattle.held_types.specs.Held.{AreHeld, HasWideConst};
 ghost use Rattle.from_consts.specs.declared.conversion_err.Unsupported.{Unsupported};
 ghost use Rattle.from_llvm_ir.specs.Refusals.{HasUndefinedUse, IsUnsupported, IsValid};
 
@@ -12,7 +12,8 @@ pub fn valid_law()
     ensures { (d : ModuleData) → IsValid d → (name : List ℕ) → (v : LLVMValue) → ¬ HasUndefinedUse d name v }
 {}
 
-/// A module whose types are held has nothing that is not translated.
+/// A module that is held has nothing that is not translated, and no constant that is too wide.
 pub fn held_law()
-    ensures { (d : ModuleData) → AreHeld d → (u : Unsupported) → ¬ IsUnsupported d u }
+    ensures supported { (d : ModuleData) → AreHeld d → (u : Unsupported) → ¬ IsUnsupported d u }
+    ensures short { (d : ModuleData) → AreHeld d → (width : ℕ) → ¬ HasWideConst d width }
 {}

@@ -32,7 +32,7 @@ use Rattle.llvm_core.proofs.FormTypes.{function_typed, signature_of}
 use Rattle.held_types.specs.declared.held_structs.HeldErr.{HeldErr}
 use Rattle.held_types.specs.declared.held_structs.HeldErr.TheVariants as E
 use Rattle.held_types.specs.declared.walk.Walk.{Walk}
-use Rattle.held_types.specs.Held.{AreHeldStructs, HasTypeWith}
+use Rattle.held_types.specs.Held.{AreHeldStructs, HasTypeWith, IsRefusalOf}
 use Rattle.held_types.specs.Values.{IsInSignature, IsInSignatures, IsInResult, IsInResults, IsInConstantsOf, IsInConstants}
 use Rattle.held_types.specs.Walk.{IsIn, IsAmong, IsCause, Walked}
 use Rattle.held_types.proofs.WalkLaws.{IsWithin, IsSplit, walked_both}
@@ -264,6 +264,8 @@ held_by_walk m a c empty h = record {
   behind = λ i n s b k t name at there has here holds. h.walk.behind i n at name (field_at m n (NamedType name) s b t k there has here holds);
 }
 
-pub lacks_by : (W V : TypeTree → Type 0) → IsWithin W V → (e : HeldErr) → IsCause W e → (of : OtherType) → e ≡ E.Lacks of → V (RefusedType of)
-lacks_by W V to (E.Lacks a) c of is = let same : a ≡ of = cc in to (RefusedType of) tt (subst (λ (x : OtherType). W (RefusedType x)) same c)
-lacks_by W V to E.NoMemory c of is = absurd (cc)
+-- a walk through types of values is given up for what refuses the module
+pub unheld_by : (m : Module) (W : TypeTree → Type 0) → IsWithin W (HasTypeWith (data_of m)) → (e : HeldErr) → IsCause W e → IsRefusalOf (data_of m) e
+unheld_by m W to (E.Lacks of) c = to (RefusedType of) tt c
+unheld_by m W to (E.TooWide width) c = absurd c
+unheld_by m W to E.NoMemory c = tt

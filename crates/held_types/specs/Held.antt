@@ -1,11 +1,14 @@
--- What the values of a module hold: types for which the dialect has none, and structs with a name.
+-- What the values of a module hold: types for which the dialect has none, integer constants for which it has no room, and
+-- structs with a name.
 use Rattle.std.specs.Prelude.{ℕ, ◌≡◌, ◌<◌, List, Some, slice_get}
 use Rattle.kinds.specs.declared.types.OtherType.{OtherType}
 use Rattle.kinds.specs.Types.{TypeTree, RefusedType, NamedType, types_list}
 use Rattle.kinds.specs.Structs.{Struct, StructBody, Holds, struct_in}
 use Rattle.llvm_core.specs.declared.numbers.LLVMStruct.{LLVMStruct}
-use Rattle.llvm_core.specs.Data.{Function, ModuleData}
-use Rattle.llvm_core.specs.Form.{value_types}
+use Rattle.llvm_core.specs.Data.{Placed, Function, ModuleData, Constant, IntConst, placed_in}
+use Rattle.llvm_core.specs.Form.{operands_of, value_types}
+use Rattle.held_types.specs.declared.held_structs.HeldErr.{HeldErr}
+use Rattle.held_types.specs.declared.held_structs.HeldErr.TheVariants as E
 
 -- a type of what a function of the module returns or takes, of the result of one of its instructions, or of a constant that one
 -- uses, is that one or holds it, through the fields of structs too
@@ -18,9 +21,30 @@ pub record HasTypeWith (d : ModuleData) (u : TypeTree) : Type 0 where
   pub here : slice_get (value_types f) index ≡ Some type
   pub holds : Holds d.structs u type
 
--- a module that is translated: no value's type is or holds one for which the dialect has none
-abbrev pub AreHeld : ModuleData → Type 0
-AreHeld d = (of : OtherType) → ¬ HasTypeWith d (RefusedType of)
+-- an instruction of a function of the module uses an integer constant of that width, which is more than 64
+pub record HasWideConst (d : ModuleData) (width : ℕ) : Type 0 where
+  pub place : ℕ
+  pub f : Function
+  pub at : slice_get d.functions place ≡ Some f
+  pub index : ℕ
+  pub p : Placed
+  pub here : slice_get (placed_in f) index ≡ Some p
+  pub operand : ℕ
+  pub value : ℕ
+  pub used : slice_get (operands_of p.instruction) operand ≡ Some (Constant (IntConst width value))
+  pub wide : 64 < width
+
+-- a module that is translated: no value's type is or holds one for which the dialect has none, and no integer constant that an
+-- instruction uses has more than 64 bits
+pub record AreHeld (d : ModuleData) : Type 0 where
+  pub types : (of : OtherType) → ¬ HasTypeWith d (RefusedType of)
+  pub constants : (width : ℕ) → ¬ HasWideConst d width
+
+-- why a module is not translated; want of memory needs no reason
+abbrev pub IsRefusalOf : ModuleData → HeldErr → Type 0
+IsRefusalOf d (E.Lacks of) = HasTypeWith d (RefusedType of)
+IsRefusalOf d (E.TooWide width) = HasWideConst d width
+IsRefusalOf d E.NoMemory = Unit {0}
 
 -- the number is that of a struct of the name, the first one where there are more
 pub record IsStructOf (d : ModuleData) (name : List ℕ) (n : LLVMStruct) : Type 0 where

@@ -70,7 +70,8 @@ pub record Walked (m : Module) (W : TypeTree → Type 0) (old new : Walk) : Type
   pub met : AreMet m W new.order.items
   pub each : (i : ℕ) (n : LLVMStruct) → slice_get new.order.items i ≡ Some n → (slice_get old.order.items i ≡ Some n) ⊎ ((name : List ℕ) × IsStructOf (data_of m) name n × W (NamedType name))
 
--- why the walk is given up: W holds of a type that the dialect lacks; want of memory needs no reason
+-- why the walk is given up: W holds of a type that the dialect lacks; it asks for no width, and want of memory needs no reason
 abbrev pub IsCause : (TypeTree → Type 0) → HeldErr → Type 0
 IsCause W (E.Lacks of) = W (RefusedType of)
+IsCause W (E.TooWide width) = ⊥
 IsCause W E.NoMemory = Unit {0}

@@ -1,11 +1,11 @@
-//! The structs that the types of a module's values hold, unless one holds a type for which the dialect has none.
+//! The structs that the types of a module's values hold, unless one holds a type for which the dialect has none, or a constant
+//! is too wide for it.
 
 ghost use Rattle.std.specs.Prelude.{◌≡◌, ◌<◌, IfErr, IfOk, OnOk, length};
-ghost use Rattle.kinds.specs.Types.{RefusedType};
 ghost use Rattle.llvm_core.specs.Sound.{IsModule};
 ghost use Rattle.llvm_core.specs.Data.{data_of};
 ghost use Rattle.llvm_core.specs.Form.{IsForm};
-ghost use Rattle.held_types.specs.Held.{AreHeld, AreHeldStructs, HasTypeWith};
+ghost use Rattle.held_types.specs.Held.{AreHeld, AreHeldStructs, IsRefusalOf};
 ghost use Rattle.held_types.specs.Table.{IsTable};
 ghost use Rattle.held_types.specs.Values.{IsInResult, IsInResults, IsInSignature, IsInSignatures};
 ghost use Rattle.held_types.specs.Walk.{IsCause, IsWalk, Walked};
@@ -14,6 +14,7 @@ ghost use Rattle.held_types.specs.declared.held_structs.HeldErr.TheVariants as r
 use crate::constants::walk_constants;
 use crate::table::{Table, table_of};
 use crate::walk::{Walk, start, visit, visit_all};
+use crate::wide::too_wide;
 use kinds::types::{OtherType, deepest};
 use llvm_core::code::LLVMValue;
 use llvm_core::module::LLVMModule;
@@ -28,6 +29,9 @@ pub enum HeldErr {
     /// The type of a value of a function is, or holds, one for which the dialect has none.
     #[error("Lacks")]
     Lacks(OtherType),
+    /// An instruction uses an integer constant of this width, which is more than the 64 bits that an attribute holds.
+    #[error("TooWide")]
+    TooWide(u32),
     /// Memory is wanting.
     #[error("NoMemory")]
     NoMemory,
@@ -122,15 +126,19 @@ fn walk_results(m: &LLVMModule, table: &Table<'_>, walk: &mut Walk) -> Result<()
 }
 
 /// The structs with a name that the types of a module's values hold, each behind those that its fields hold.
-/// Refuses a module of which such a type is, or holds, one for which the dialect has none.
+/// Refuses a module of which such a type is, or holds, one for which the dialect has none, and one that uses an integer constant
+/// of more than 64 bits.
 pub fn held_structs(alloc: Global, source: &LLVMModule) -> Result<Vec<LLVMStruct>, HeldErr>
     requires form { IsForm (data_of source.now) }
     ensures held { OnOk result (AreHeld (data_of source.now)) }
     ensures structs { IfOk result (λ ns. AreHeldStructs (data_of source.now) ns.items) }
-    ensures lacks { IfErr result (λ e. (of : _) → e ≡ reasons.Lacks of → HasTypeWith (data_of source.now) (RefusedType of)) }
+    ensures cause { IfErr result (IsRefusalOf (data_of source.now)) }
 {
     let table = table_of(alloc, source)?;
     let mut walk = start(alloc, source)?;
+    if let Some(width) = too_wide(source) {
+        return Err(HeldErr::TooWide(width));
+    }
     walk_signatures(source, &table, &mut walk)?;
     walk_results(source, &table, &mut walk)?;
     walk_constants(source, &table, &mut walk)?;

@@ -1,7 +1,8 @@
-//! What the values of an LLVM module hold: the structs that an import translates, and the types that it refuses.
+//! What the values of an LLVM module hold: the structs that an import translates, and the types and constants that it refuses.
 #![tactic(auto)]
 
 mod constants;
 pub mod held_structs;
 pub mod table;
 mod walk;
+mod wide;

@@ -1,11 +1,11 @@
 -- Decimal digits are read back as their number.
-use Rattle.std.proofs.Common.{◌≡◌, ℕ, true, ◌^◌, ◌<◌, [], ◌∷◌, Some, length, refl, arith}
+use Rattle.std.proofs.Common.{◌≡◌, ◌∙◌, ℕ, true, ◌^◌, ◌<◌, [], ◌∷◌, Some, length, refl, arith}
 use Rattle.std.specs.Prelude.{decimal}
 use Rattle.std.specs.List.{list_all}
 use Rattle.std.specs.Int.{IsInRange}
 use Rattle.std.proofs.lemmas.Bool.Decides.{nat_tests}
 use Rattle.std.proofs.lemmas.Str.Parse.{IsDigitsTest, FoldsDigits, IsNumeralModel, numerals_by_fold}
-use Rattle.std.proofs.lemmas.Fmt.{decimal_nonempty, digits_decimal, digits_value-decimal}
+use Rattle.std.proofs.lemmas.Fmt.{decimal_is_IsNumeral_wide}
 use Rattle.std.proofs.lemmas.Bool.{and_parts}
 use Rattle.llvm_core.specs.Names.{is_digit}
 use Rattle.ll_literals.specs.Text.{Text}
@@ -49,5 +49,11 @@ decimal_by n (b ∷ bs) some h v =
     record { first = b; others = bs; text = refl; digit = k.0; digits = k.1; number = rw (h, v) refl }
 
 -- a printed number
+pub IsDecimal-wide : (n : ℕ) → n < 2 ^ 128 → IsDecimal (decimal n) n
+IsDecimal-wide n h =
+    let numeral = decimal_is_IsNumeral_wide n (omega (arith, h)) in
+    let digits = numeral.0.1 in
+    decimal_by n (decimal n) numeral.0.0 (model.from (decimal n) digits) (model.same (decimal n) digits ∙ numeral.1)
+
 pub IsDecimal-decimal : (n : ℕ) → n < 2 ^ 64 → IsDecimal (decimal n) n
-IsDecimal-decimal n h = decimal_by n (decimal n) (decimal_nonempty n h) (digits_decimal model n h) (digits_value-decimal model n h)
+IsDecimal-decimal n h = IsDecimal-wide n (omega (arith, h))

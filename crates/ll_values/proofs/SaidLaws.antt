@@ -1,7 +1,6 @@
 -- What a literal says at a type.
 use Rattle.std.proofs.Common.{◌≡◌, ◌≢◌, ◌<◌, ◌≤◌, ℕ, nat_le, Bool, true, false, if◌then◌else◌, List, Option, Some, None, length, slice_get, refl, ap, sym, ◌∙◌, arith}
 use Rattle.std.specs.Prelude.{IfSome, IfOk, Result, Ok, Err}
-use Rattle.std.specs.Bool.{then_some}
 use Rattle.std.specs.Option.{option_map, option_map_or}
 use Rattle.std.proofs.lemmas.Option.{slice_get_within}
 use Rattle.kinds.specs.declared.fill.Fill.{Fill}
@@ -35,27 +34,15 @@ use Rattle.ll_values.specs.Values.{int_const, const_of, null_of}
 
 -- ---- integers
 
--- at an integer type of at most 64 bits
-int_const-small : (w : ℕ) (t : Text) → w ≤ 64 → int_const (IntType w) t ≡ option_map (IntConst w) (const_value w t)
-int_const-small w t h = let e : nat_le w 64 ≡ true = grind (arith, h) in rw e refl
-
--- at a type that is no integer of at most 64 bits
-pub int_const-bounded : (m : Module) (ty : LLVMType) (w : ℕ) (r : Option ℕ) → IsModule m → slice_get m.types ty.0 ≡ Some (T.Int w) → r ≡ then_some (nat_le w 64) w → r ≡ None → (t : Text) → int_const (type_at (trees_of m).types ty) t ≡ None
-int_const-bounded m ty w r s at is none t = by (nat_le w 64) refl
-  where
-    by : (b : Bool) → nat_le w 64 ≡ b → int_const (type_at (trees_of m).types ty) t ≡ None
-    by true e = absurd (cc (is, none, e))
-    by false e = rw (type_tree_of m ty (T.Int w) s at, e) refl
-
 -- at a type that is no integer
 pub int_const-other : (m : Module) (ty : LLVMType) (k : LLVMTypeKind) → IsModule m → slice_get m.types ty.0 ≡ Some k → ((w : ℕ) → k ≢ T.Int w) → (t : Text) → int_const (type_at (trees_of m).types ty) t ≡ None
 int_const-other m ty (T.Int w) s at other t = absurd (other w refl)
 int_const-other m ty k s at other t = rw (type_tree_of m ty k s at) refl
 
 -- at an integer type of the module, by what the digits are
-pub int_const-read : (m : Module) (ty : LLVMType) (w : ℕ) (t : Text) (o : Option ℕ) → IsModule m → slice_get m.types ty.0 ≡ Some (T.Int w) → w ≤ 64 → const_value w t ≡ o
+pub int_const-read : (m : Module) (ty : LLVMType) (w : ℕ) (t : Text) (o : Option ℕ) → IsModule m → slice_get m.types ty.0 ≡ Some (T.Int w) → const_value w t ≡ o
     → int_const (type_at (trees_of m).types ty) t ≡ option_map (λ v. const_tree (trees_of m).types (trees_of m).consts (C.Int ty v)) o
-int_const-read m ty w t o s at small is = rw (int_tree_of m ty w s at) (int_const-small w t small ∙ ap (option_map (IntConst w)) is)
+int_const-read m ty w t o s at is = rw (int_tree_of m ty w s at) (ap (option_map (IntConst w)) is)
 
 -- ---- constants of any type
 

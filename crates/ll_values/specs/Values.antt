@@ -115,9 +115,9 @@ named_type t = option_map NamedType (symbol_name t)
 abbrev pub body_of : StructLayout → TypeTrees → Option StructBody
 body_of layout τs = if are_fields τs then Some (record { fields = τs; layout = layout }) else None
 
--- an integer's digits, true or false at an integer type of at most 64 bits
+-- an integer's digits, true or false at an integer type
 abbrev pub int_const : TypeTree → Text → Option ConstTree
-int_const (IntType w) t = if nat_le w 64 then option_map (IntConst w) (const_value w t) else None
+int_const (IntType w) t = option_map (IntConst w) (const_value w t)
 int_const _ t = None
 
 -- zero, undef or poison of any type, or an integer

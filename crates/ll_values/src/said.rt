@@ -70,16 +70,15 @@ pub fn type_of(m: &mut LLVMModule, kind: LLVMTypeKind) -> Result<LLVMType, Value
     type_number(m, kind)
 }
 
-/// The width of an integer type whose constants are read: of at most 64 bits.
+/// The width of an integer type.
 fn const_width(m: &LLVMModule, ty: LLVMType) -> Option<u32>
     requires sound { IsModule m.now }
     requires there { IsTypeIn m.now ty }
     ensures int { IfSome result (λ w. slice_get m.now.types ty.0 ≡ Some (T.Int w)) }
-    ensures most { IfSome result (λ w. w ≤ 64) }
     ensures none { result ≡ None → (t : Text) → int_const (type_at (trees_of m.now).types ty) t ≡ None }
 {
     match m.type_kind(ty) {
-        LLVMTypeKind::Int(width) => (*width <= 64).then_some(*width),
+        LLVMTypeKind::Int(width) => Some(*width),
         _ => None,
     }
 }

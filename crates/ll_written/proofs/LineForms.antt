@@ -36,7 +36,7 @@ some_mapped f (x ∷ xs) some = λ e. absurd cc
 
 module _ (f : Function) (sayable : IsSayable f) where
   said_form : (o : Operand) (τ : TypeTree) → IsOperandOf f o → operand_type f o ≡ τ → IsSaidOf τ (said_of f o)
-  said_form (Constant (IntConst w n)) τ stands type = subst (λ (υ : TypeTree). IsConstOf υ (IntConst w n)) type (an_int w n stands.0.1 stands.1)
+  said_form (Constant (IntConst w n)) τ stands type = subst (λ (υ : TypeTree). IsConstOf υ (IntConst w n)) type (an_int w n stands.1)
   said_form (Constant (FilledConst fill σ)) τ stands type = subst (λ (υ : TypeTree). IsConstOf υ (FilledConst fill σ)) type (a_filled fill σ stands)
   said_form (Constant (PlaceholderConst n σ)) τ stands type = absurd stands
   said_form (Parameter g i) τ stands type = local_form f sayable (slice_index_or f.params i []) (ParamAt i) (sayable.form.param_names i [] stands.1)

@@ -1,7 +1,8 @@
 -- The tokens of what a text says are well spaced.
-use Rattle.std.proofs.Common.{◌≡◌, ◌≤◌, ◌<◌, ◌^◌, ℕ, zero, suc, Bool, true, false, cond, if◌then◌else◌, ◌==◌, ◌-◌, nat_le, nat_lt, List, [], ◌∷◌, Option, Some, None, codes, refl, subst, arith}
+use Rattle.std.proofs.Common.{◌≡◌, ◌≤◌, ◌<◌, ◌^◌, ℕ, zero, suc, Bool, true, false, cond, if◌then◌else◌, ◌==◌, ◌-◌, nat_le, nat_lt, List, [], ◌∷◌, Option, Some, None, codes, refl, sym, subst, arith}
 use Rattle.std.specs.Prelude.{decimal, IfSome}
 use Rattle.std.specs.List.{flat_map, AllByRecursion}
+use Rattle.std.proofs.lemmas.Bool.{ltb-false, leb-true, eqb-true}
 use Rattle.std.proofs.lemmas.Bool.Decides.{nat_tests}
 use Rattle.std.proofs.Math.Nat.{pow-le-pow_right}
 use Rattle.kinds.specs.declared.op.LLVMIntPredicate.{LLVMIntPredicate}
@@ -13,6 +14,7 @@ use Rattle.kinds.specs.declared.fill.Fill.{Fill}
 use Rattle.kinds.specs.declared.fill.Fill.TheVariants as Z
 use Rattle.kinds.specs.Fitting.{is_pointer}
 use Rattle.kinds.specs.Types.{TypeTree, shape}
+use Rattle.llvm_core.specs.Parts.{IsIntAt}
 use Rattle.ll_lines.specs.Lines as L
 use Rattle.ll_lines.specs.Lines.{Text, Said, Typed}
 use Rattle.ll_spacing.specs.Forms.{IsText, is_word}
@@ -25,20 +27,17 @@ use Rattle.ll_written.specs.Written as W
 use Rattle.ll_written.specs.Written.{token, word}
 use Rattle.ll_written.specs.Writable.{IsSayableType, an_int, a_filled, IsLocal, IsSaidOf, IsTyped}
 use Rattle.ll_written.proofs.FreeLaws.{AreFree, IsFree, none_free, then_free, one_free, both_free, each_free, gap_free, apart_free, word_whole, word_free, comma_free}
-use Rattle.ll_written.proofs.NumberForms.{decimal_text, minus_text}
+use Rattle.ll_written.proofs.NumberForms.{wide_text, minus_text}
 use Rattle.ll_written.proofs.TypeTokens.{type_free}
 
 -- ---- values
 
-power_most : (w n : ℕ) → w ≤ 64 → n < 2 ^ w → n < 2 ^ 64
-power_most w n h fits = omega (arith, pow-le-pow_right {n = 2} (omega arith) {i = w} {j = 64} h)
-
-signed_by : (w n : ℕ) (b : Bool) → w ≤ 64 → n < 2 ^ w → nat_lt n (2 ^ (w - 1)) ≡ b → IsText T.Int (cond b (decimal n) (45 ∷ decimal (2 ^ w - n)))
-signed_by w n true most fits e = decimal_text n (power_most w n most fits)
+signed_by : (w n : ℕ) (b : Bool) → w ≤ 128 → IsIntAt w n → nat_lt n (2 ^ (w - 1)) ≡ b → IsText T.Int (cond b (decimal n) (45 ∷ decimal (2 ^ w - n)))
+signed_by w n true most fits e = wide_text n fits.1
 signed_by w n false most fits e =
-    let high : 2 ^ (w - 1) ≤ n = grind (arith, nat_tests) in
+    let high : 2 ^ (w - 1) ≤ n = ltb-false n (2 ^ (w - 1)) e in
     let pos = pow_pos (w - 1) in
-    let wide : 2 ^ w ≤ 2 ^ 64 = pow-le-pow_right {n = 2} (omega arith) {i = w} {j = 64} most in
+    let wide : 2 ^ w ≤ 2 ^ 128 = pow-le-pow_right {n = 2} (omega arith) {i = w} {j = 128} most in
     minus_text (2 ^ w - n) (omega (arith, high, pos, wide))
 
 bit_text : (n : ℕ) → n < 2 → IsText T.Word (int_text 1 n)
@@ -46,16 +45,24 @@ bit_text zero h = IsText.word (codes "false") refl
 bit_text (suc zero) h = IsText.word (codes "true") refl
 bit_text (suc (suc n)) h = absurd (omega arith)
 
-int_by : (w n : ℕ) (b : Bool) → w ≤ 64 → n < 2 ^ w → (w == 1) ≡ b → IsText (W.int_kind w) (int_text w n)
-int_by w n true most fits e =
-    let one : 1 ≡ w = grind (arith, nat_tests) in
-    let small : n < 2 = rw (← one) at fits in
+-- up to 128 bits with its sign, past that without
+many_by : (w n : ℕ) (b : Bool) → IsIntAt w n → (w == 1) ≡ false → nat_le w 128 ≡ b → IsText T.Int (int_text w n)
+many_by w n true fits e g =
+    let same : signed_text w n ≡ int_text w n = rw (e, g) refl in
+    subst (λ (t : Text). IsText T.Int t) same (signed_by w n (nat_lt n (2 ^ (w - 1))) (leb-true w 128 g) fits refl)
+many_by w n false fits e g =
+    let same : decimal n ≡ int_text w n = rw (e, g) refl in
+    subst (λ (t : Text). IsText T.Int t) same (wide_text n fits.1)
+
+int_by : (w n : ℕ) (b : Bool) → IsIntAt w n → (w == 1) ≡ b → IsText (W.int_kind w) (int_text w n)
+int_by w n true fits e =
+    let one : 1 ≡ w = sym (eqb-true w 1 e) in
+    let below = fits.0 in
+    let small : n < 2 = rw (← one) at below in
     subst (λ (v : ℕ). IsText (W.int_kind v) (int_text v n)) one (bit_text n small)
-int_by w n false most fits e =
-    let narrow : nat_le w 128 ≡ true = grind (arith, nat_tests) in
+int_by w n false fits e =
     let kind : T.Int ≡ W.int_kind w = rw e refl in
-    let same : signed_text w n ≡ int_text w n = rw (e, narrow) refl in
-    subst (λ (k : Kind). IsText k (int_text w n)) kind (subst (λ (t : Text). IsText T.Int t) same (signed_by w n (nat_lt n (2 ^ (w - 1))) most fits refl))
+    subst (λ (k : Kind). IsText k (int_text w n)) kind (many_by w n (nat_le w 128) fits e refl)
 
 -- a constant of any type is a word
 filled_word : (fill : Fill) (τ : TypeTree) → IsText T.Word (filled_text fill τ)
@@ -69,7 +76,7 @@ filled_word Z.Poison τ = IsText.word (codes "poison") refl
 
 pub said_free : (τ : TypeTree) (s : Said) → IsSaidOf τ s → IsFree (W.written_said s)
 said_free τ (L.Local t) h = apart_free T.Local t h
-said_free τ (L.Const c) (an_int w n most fits) = apart_free (W.int_kind w) (int_text w n) (int_by w n (w == 1) most fits refl)
+said_free τ (L.Const c) (an_int w n fits) = apart_free (W.int_kind w) (int_text w n) (int_by w n (w == 1) fits refl)
 said_free τ (L.Const c) (a_filled fill υ own) = apart_free T.Word (filled_text fill υ) (filled_word fill υ)
 
 pub typed_free : (x : Typed) → IsTyped x → AreFree (W.written_typed x)

@@ -80,17 +80,16 @@ filled_again Z.Poison τ own = refl
 
 pub said_says : (τ : TypeTree) (s : Said) → IsSaidOf τ s → Reads N.value (LiteralV (literal_of s)) (written_said s ∷ [])
 said_says τ (L.Local t) fits = P.value_local (codes " ") t refl
-said_says τ (L.Const c) (an_int v n most fits) = const_by v n (v == 1) fits refl
+said_says τ (L.Const c) (an_int v n fits) = const_by v n (v == 1) fits.0 refl
 said_says τ (L.Const c) (a_filled fill υ own) = filled_says fill υ
 
 -- what a value is written as says the value at its type
 pub said_again : (τ : TypeTree) (s : Said) → IsFirstClass τ → IsSaidOf τ s → said τ (literal_of s) ≡ Some s
 said_again τ (L.Local t) type fits = refl
 said_again τ (L.Const c) type (a_filled fill υ own) = filled_again fill υ own
-said_again τ (L.Const c) type (an_int v n most fits) =
-    let narrow : nat_le v 64 ≡ true = grind (arith, nat_tests) in
-    let value = const_value-int v n (first_class_int v type).0 most fits in
-    rw (no_fill v n (int_text v n) value, narrow, value) refl
+said_again τ (L.Const c) type (an_int v n fits) =
+    let value = const_value-int v n (first_class_int v type).0 fits in
+    rw (no_fill v n (int_text v n) value, value) refl
 
 pub typed_again : (x : Typed) → IsTyped x → typed x.type (literal_of x.said) ≡ Some x
 typed_again x h = ap (λ (o : Option Said). o >>= λ s. Some (record { type = x.type; said = s })) (said_again x.type x.said h.type.type h.said)

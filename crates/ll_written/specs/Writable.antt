@@ -10,6 +10,7 @@ use Rattle.kinds.specs.Names.{is_good_name}
 use Rattle.kinds.specs.Typing.{fits_trees}
 use Rattle.kinds.specs.declared.fill.Fill.{Fill}
 use Rattle.kinds.specs.Fill.{is_own_fill}
+use Rattle.llvm_core.specs.Parts.{IsIntAt}
 use Rattle.llvm_core.specs.Data.{ConstTree, IntConst, FilledConst}
 use Rattle.ll_tokens.specs.declared.kinds.Kind.TheVariants as K
 use Rattle.ll_lines.specs.Lines as L
@@ -44,9 +45,9 @@ pub record IsSayableResult (τ : TypeTree) : Type 0 where
 
 -- ---- values
 
--- a constant of one form of a type: an integer of at most 64 bits, or zero, undef or poison
+-- a constant of one form of a type: an integer, or zero, undef or poison
 pub data IsConstOf : TypeTree → ConstTree → Type 0 where
-  an_int : (w n : ℕ) → w ≤ 64 → n < 2 ^ w → IsConstOf (IntType w) (IntConst w n)
+  an_int : (w n : ℕ) → IsIntAt w n → IsConstOf (IntType w) (IntConst w n)
   a_filled : (fill : Fill) (τ : TypeTree) → is_own_fill fill (shape τ) ≡ true → IsConstOf τ (FilledConst fill τ)
 
 abbrev pub IsLocal : Text → Type 0

@@ -41,4 +41,4 @@ one_form_over types (C.Filled fill t) h = by (is_own_fill fill (shape_at types t
 
     by : (b : Bool) → is_own_fill fill (shape_at types t) ≡ b → IsConstOver types (if b then C.Filled fill t else C.Int t 0)
     by true e = (h, e)
-    by false e = let w = number_type (slice_get types t.0) (zero_only fill e) in (w.0, w.1, pow_pos w.0)
+    by false e = let w = number_type (slice_get types t.0) (zero_only fill e) in (w.0, w.1, (pow_pos w.0, pow_pos 128))

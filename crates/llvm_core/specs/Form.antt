@@ -12,18 +12,19 @@ use Rattle.kinds.specs.Table.{rule_of}
 use Rattle.kinds.specs.Typing.{fits_trees, typed}
 use Rattle.kinds.specs.Fill.{is_own_fill}
 use Rattle.kinds.specs.Types.{shape, types_list, count_types, result_of, params_of}
-use Rattle.kinds.specs.Held.{is_void, IsShallow, IsFirstClass, IsReturned, IsHeldResult, IsShortWidth}
+use Rattle.kinds.specs.Held.{is_void, IsShallow, IsFirstClass, IsReturned, IsHeldResult}
 use Rattle.llvm_core.specs.Edges.{count_of}
+use Rattle.llvm_core.specs.Parts.{IsIntAt}
 use Rattle.support.specs.Interned.{IsDistinctList}
 use Rattle.kinds.specs.Names.{is_good_name, is_intrinsic_name, IsGoodOrNone}
 use Rattle.llvm_core.specs.Checked.{ends_in_only, named}
 
 -- ---- types and operands
 
--- a constant of the form: an integer of 1 to 64 bits, undef, poison, or the zero of what is no integer type; of which type it
--- may be is asked where it stands
+-- a constant of the form: an integer, undef, poison, or the zero of what is no integer type; of which type it may be is asked
+-- where it stands
 abbrev pub IsFormConst : ConstTree → Type 0
-IsFormConst (IntConst w v) = IsShortWidth w × (v < 2 ^ w)
+IsFormConst (IntConst w v) = (1 ≤ w) × IsIntAt w v
 IsFormConst (FilledConst fill type) = is_own_fill fill (shape type) ≡ true
 IsFormConst (PlaceholderConst n type) = ⊥
 
@@ -178,20 +179,25 @@ pub record IsForm (d : ModuleData) : Type 0 where
 abbrev pub value_types : Function → List TypeTree
 value_types f = result_of f.type ∷ params_of f.type ++ map (λ (p : Placed). p.type) (placed_in f) ++ flat_map constant_types (placed_in f)
 
+-- a constant that is translated: an integer has at most 64 bits
+abbrev pub IsShortConst : ConstTree → Type 0
+IsShortConst (IntConst w v) = w ≤ 64
+IsShortConst (FilledConst fill type) = Unit {0}
+IsShortConst (PlaceholderConst n type) = Unit {0}
+
+-- so where an operand is a constant; of another nothing is asked
+abbrev pub IsShortOperand : Operand → Type 0
+IsShortOperand (Constant c) = IsShortConst c
+IsShortOperand (Parameter g i) = Unit {0}
+IsShortOperand (Result n) = Unit {0}
+
 -- each value of the function is of a type that is translated, as far as the type itself says: what stands in the structs
--- that it names is not looked at
-abbrev pub IsHeldFunction : Function → Type 0
-IsHeldFunction f = All IsHeldResult (value_types f)
+-- that it names is not looked at; and no instruction uses an integer constant of more than 64 bits
+pub record IsHeldFunction (f : Function) : Type 0 where
+  pub types : All IsHeldResult (value_types f)
+  pub constants : All (λ (p : Placed). All IsShortOperand (operands_of p.instruction)) (placed_in f)
 
 -- ---- what the form asks beside the rules of a checked module
-
--- an integer constant that is translated has at most 64 bits; of another operand nothing is asked
-abbrev pub IsNarrowConst : Operand → Type 0
-IsNarrowConst (Constant (IntConst w v)) = w ≤ 64
-IsNarrowConst (Constant (FilledConst fill type)) = Unit {0}
-IsNarrowConst (Constant (PlaceholderConst n type)) = Unit {0}
-IsNarrowConst (Parameter g i) = Unit {0}
-IsNarrowConst (Result n) = Unit {0}
 
 -- the types of operands, and of a result where there is one, are first class; what has no result has no name
 pub record IsNarrowPlaced (f : Function) (p : Placed) : Type 0 where
@@ -199,7 +205,6 @@ pub record IsNarrowPlaced (f : Function) (p : Placed) : Type 0 where
   pub unnamed : p.type ≡ VoidType → p.name ≡ []
   pub result : IsReturned p.type
   pub operands : All (λ (o : Operand). IsFirstClass (operand_type f o)) (operands_of p.instruction)
-  pub constants : All IsNarrowConst (operands_of p.instruction)
 
 pub record IsNarrowBlock (f : Function) (b : Block) : Type 0 where
   pub label : IsGoodOrNone b.name

@@ -63,10 +63,14 @@ shape_of (T.Function result params variadic) = S.Function
 abbrev pub shape_at : List LLVMTypeKind → LLVMType → Shape
 shape_at types t = option_map_or shape_of (slice_get types t.0) S.Void
 
+-- an integer that a module keeps at a width: below 2^width, and below 2^128 at a greater width too
+abbrev pub IsIntAt : (width value : ℕ) → Type 0
+IsIntAt width value = (value < 2 ^ width) × (value < 2 ^ 128)
+
 -- a constant of one form over a list of types: an integer of an integer type, which it fits, zero, undef or poison of a type
 -- that is there but the zero of an integer type, or a placeholder of a type that is there
 abbrev pub IsConstOver : List LLVMTypeKind → LLVMConstKind → Type 0
-IsConstOver types (C.Int t value) = (width : ℕ) × (slice_get types t.0 ≡ Some (T.Int width)) × (value < 2 ^ width)
+IsConstOver types (C.Int t value) = (width : ℕ) × (slice_get types t.0 ≡ Some (T.Int width)) × IsIntAt width value
 IsConstOver types (C.Filled fill t) = (t.0 < length types) × (is_own_fill fill (shape_at types t) ≡ true)
 IsConstOver types (C.Placeholder number t) = t.0 < length types
 

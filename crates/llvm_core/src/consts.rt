@@ -6,7 +6,7 @@ use kinds::fill::Fill;
 /// A constant, whose parts are numbers of types and of earlier constants (Language Reference, Constants).
 #[derive(PartialEq, Eq, Hash, Drop)]
 pub enum LLVMConstKind {
-    /// An integer of an integer type, below 2^width.
+    /// An integer of an integer type, below 2^width; of a type of more than 128 bits, below 2^128.
     Int(LLVMType, u128),
     /// Zero, undef or poison of a type (Language Reference, Simple Constants, Undefined Values, Poison Values). The zero of an
     /// integer type is the integer 0, and no module keeps it otherwise.

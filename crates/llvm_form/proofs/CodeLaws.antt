@@ -27,14 +27,14 @@ use Rattle.llvm_core.specs.Parts.{IsValue, IsEntry, HasValues, is_kind, operands
 use Rattle.llvm_core.specs.Sound.{IsModule}
 use Rattle.llvm_core.specs.Data.{Operand, Constant, Block, type_at, trees_of, operand_of, entry_of, instruction_of, operand_type}
 use Rattle.llvm_core.specs.Checked.{IsChecked, home, is_void, is_outside, is_block_outside, is_entry_outside, reaches_outside, is_deep, is_deep_value, is_deep_inst}
-use Rattle.llvm_core.specs.Form.{IsNarrowConst, IsNarrowPlaced, IsNarrowBlock, operands_of}
+use Rattle.llvm_core.specs.Form.{IsNarrowPlaced, IsNarrowBlock, operands_of}
 use Rattle.llvm_core.proofs.DataLemmas.{within_at, inst_of_number, int_const_of, filled_const_of, placeholder_const_of}
 use Rattle.llvm_core.proofs.WithinLemmas.{const_type_within}
 use Rattle.llvm_core.proofs.GivenLemmas.{none_any_at}
 use Rattle.llvm_core.proofs.FormTypes.{numbered, kind_kept, void_kept}
 use Rattle.llvm_core.proofs.FormValues.{value_typed}
 use Rattle.llvm_core.proofs.FormPlaces.{shown, shown_block, shown_inst, IsFromBlock, inst_from}
-use Rattle.llvm_form.specs.Narrow.{is_good_or_none, is_returned_kind, is_first_class_type, is_first_class_value, is_short_const, is_narrow_const, is_named_right, is_narrow_inst, is_narrow_inst_data, is_narrow_block_data}
+use Rattle.llvm_form.specs.Narrow.{is_good_or_none, is_returned_kind, is_first_class_type, is_first_class_value, is_named_right, is_narrow_inst, is_narrow_inst_data, is_narrow_block_data}
 use Rattle.llvm_form.proofs.AllLaws.{each_passes, all_pass, mapped_decided}
 use Rattle.llvm_form.proofs.TypeLaws.{good_or_none, named_right, deep_shallow, first_class_decided, returned_decided}
 
@@ -58,24 +58,6 @@ module _ (m : Module) (sound : IsModule m) (f : ℕ) (x : FunctionData) (at : sl
       let t = value_typed m f x sound at v here inside in
       let not_deep = ap (λ o. option_map_or (is_deep m) o false) (sym t.type_is) ∙ shallow in
       Decides-at (is_first_class_value m v) (is_first_class_type m t.type) (ap (λ o. option_map_or (is_first_class_type m) o false) t.type_is) (subst (λ τ. Decides (is_first_class_type m t.type) (IsFirstClass τ)) t.tree_is (first_class_decided m sound t.type t.within (deep_shallow m t.type not_deep)))
-
-  -- an integer has the width of its tree; of what is no constant nothing is asked
-  const_decided : (v : LLVMValue) → IsValue m v → Decides (is_narrow_const m v) (IsNarrowConst (operand_of (trees_of m) v))
-  const_decided (V.Const c) here = let k = item_there m.consts c.0 here in by k.0 k.1
-    where
-      by : (k : LLVMConstKind) → slice_get m.consts c.0 ≡ Some k → Decides (is_narrow_const m (V.Const c)) (IsNarrowConst (operand_of (trees_of m) (V.Const c)))
-      by (C.Int t value) is =
-          let width = width_in (type_at (trees_of m).types t) in
-          let within = const_type_within m.types (C.Int t value) (sound.consts c.0 (C.Int t value) is) in
-          let short : Decides (nat_le width 64) (width ≤ 64) = (λ e. leb-true width 64 e, λ h. le-leb width 64 h) in
-          Decides-at (is_narrow_const m (V.Const c)) (nat_le width 64) (ap (λ o. option_map_or (is_short_const m.types) o true) is ∙ kind_kept m (λ s. nat_le (width_of s) 64) t sound within)
-          (subst (λ k. Decides (nat_le width 64) (IsNarrowConst (Constant k))) (sym (int_const_of m c t value is)) short)
-      by (C.Filled fill t) is =
-          (λ e. subst (λ k. IsNarrowConst (Constant k)) (sym (filled_const_of m c fill t is)) tt, λ h. ap (λ o. option_map_or (is_short_const m.types) o true) is)
-      by (C.Placeholder number t) is =
-          (λ e. subst (λ k. IsNarrowConst (Constant k)) (sym (placeholder_const_of m c number t is)) tt, λ h. ap (λ o. option_map_or (is_short_const m.types) o true) is)
-  const_decided (V.Param g place) here = (λ e. tt, λ h. refl)
-  const_decided (V.Inst i) here = (λ e. tt, λ h. refl)
 
   -- the operands of an instruction are there, and none is outside
   operands_there : (i : LLVMInst) → HasValues m i → All (IsValue m) (operands i)
@@ -113,14 +95,11 @@ module _ (m : Module) (sound : IsModule m) (f : ℕ) (x : FunctionData) (at : sl
         let vs = operands z.inst in
         let value = within_at vs (IsValue m) (operands_there z.inst there.values) in
         let valued = mapped_decided (is_first_class_value m) IsFirstClassOperand (operand_of (trees_of m)) vs (λ k v listed. value_decided v (value k v listed) (none_any_at (is_outside m (numbered f)) vs k v inside listed) (none_any_at (is_deep_value m) vs k v shallow.1 listed)) in
-        let short = mapped_decided (is_narrow_const m) IsNarrowConst (operand_of (trees_of m)) vs (λ k v listed. const_decided v (value k v listed)) in
         let all_valued = subst (λ os. Decides (list_all (is_first_class_value m) vs) (All IsFirstClassOperand os)) (sym (operands_shown m z.inst)) valued in
-        let all_short = subst (λ os. Decides (list_all (is_narrow_const m) vs) (All IsNarrowConst os)) (sym (operands_shown m z.inst)) short in
         let first = is_named_right m z && is_kind is_returned_kind m.types z.ty in
-        let head = Decides-and first (list_all (is_first_class_value m) vs) (Decides-and (is_named_right m z) (is_kind is_returned_kind m.types z.ty) named result) all_valued in
-        Decides-like (is_narrow_inst_data m z) (λ h. record { name = h.0.0.0.0; unnamed = h.0.0.0.1; result = h.0.0.1; operands = h.0.1; constants = h.1 })
-        (λ (p : IsNarrowPlaced (shown m f x) (shown_inst m i z)). ((((p.name, p.unnamed), p.result), p.operands), p.constants))
-        (Decides-and (first && list_all (is_first_class_value m) vs) (list_all (is_narrow_const m) vs) head all_short)
+        let all = Decides-and first (list_all (is_first_class_value m) vs) (Decides-and (is_named_right m z) (is_kind is_returned_kind m.types z.ty) named result) all_valued in
+        Decides-like (is_narrow_inst_data m z) (λ h. record { name = h.0.0.0; unnamed = h.0.0.1; result = h.0.1; operands = h.1 })
+        (λ (p : IsNarrowPlaced (shown m f x) (shown_inst m i z)). (((p.name, p.unnamed), p.result), p.operands)) all
 
     -- ---- blocks
 

@@ -26,7 +26,7 @@ use Rattle.llvm_core.specs.Data.{TypeTree, TypeTrees, FunctionType, IntConst, Fi
 use Rattle.llvm_core.specs.declared.check_err.Place.TheVariants as P
 use Rattle.llvm_core.specs.declared.check_err.CheckErr.TheVariants.{TooDeep}
 use Rattle.llvm_core.specs.Checked.{IsChecked, is_deep, struct_names}
-use Rattle.llvm_core.specs.Form.{IsOperandOf, IsOperand, IsForm, IsFormFunction, IsFormBlock, IsFormPlaced, IsFormInstruction, IsNarrow, IsNarrowFunction, IsNarrowBlock, IsNarrowPlaced, IsNarrowConst, operands_of}
+use Rattle.llvm_core.specs.Form.{IsOperandOf, IsOperand, IsForm, IsFormFunction, IsFormBlock, IsFormPlaced, IsFormInstruction, IsNarrow, IsNarrowFunction, IsNarrowBlock, IsNarrowPlaced, operands_of}
 use Rattle.llvm_core.proofs.DataLemmas.{within_at, function_at, function_tree_of, block_count_of, block_of_number}
 use Rattle.llvm_core.proofs.FormTypes.{signature_of, function_typed}
 use Rattle.llvm_core.proofs.FormPlaces.{shown, block_from}
@@ -168,22 +168,8 @@ module _ (f : Function) where
       of_types [] all = All-nil (λ (o : Operand). IsFirstClass (operand_type f o))
       of_types (o ∷ os) all = All-cons (λ (o : Operand). IsFirstClass (operand_type f o)) o os (All-head IsFirstClass (operand_type f o) (map (operand_type f) os) all) (of_types os (All-tail IsFirstClass (operand_type f o) (map (operand_type f) os) all))
 
-  const_short : (o : Operand) → IsOperandOf f o → IsNarrowConst o
-  const_short (Constant (IntConst w v)) h = h.0.1
-  const_short (Constant (FilledConst fill type)) h = tt
-  const_short (Constant (PlaceholderConst n type)) h = tt
-  const_short (Parameter g i) h = tt
-  const_short (Result n) h = tt
-
-  consts_short : (b : ℕ) (type : TypeTree) (i : Instruction) → IsFormInstruction f b type i → All IsNarrowConst (operands_of i)
-  consts_short b type (Phi entries) form =
-      let P : Operand × ℕ → Type 0 = λ e. IsNarrowConst e.0 in
-      let Q : Operand × ℕ → Type 0 = λ e. IsOperand f type e.0 in
-      All-map IsNarrowConst (λ (e : Operand × ℕ). e.0) entries (All-weaker Q P (λ e h. const_short e.0 h.stands) entries form.0)
-  consts_short b type (Applied r) form = All-weaker (IsOperandOf f) IsNarrowConst const_short r.operands form.operands
-
   narrow_placed : (b : ℕ) (p : Placed) → IsFormPlaced f b p → IsNarrowPlaced f p
-  narrow_placed b p form = record { name = form.name; unnamed = form.unnamed; result = form.returned; operands = operands_first_class b p.type p.instruction form.instruction; constants = consts_short b p.type p.instruction form.instruction }
+  narrow_placed b p form = record { name = form.name; unnamed = form.unnamed; result = form.returned; operands = operands_first_class b p.type p.instruction form.instruction }
 
   narrow_block : (b : Block) → IsFormBlock f b → IsNarrowBlock f b
   narrow_block b form = record { label = form.label; instructions = All-weaker (IsFormPlaced f b.number) (IsNarrowPlaced f) (narrow_placed b.number) b.instructions form.instructions }

@@ -1,5 +1,5 @@
 -- What the form asks beside the rules of a checked module, as a test over the lists of a module.
-use Rattle.std.specs.Prelude.{ℕ, Bool, true, false, not, ◌&&◌, ◌||◌, nat_le, nat_lt, List, [], ◌∷◌, slice_get, length}
+use Rattle.std.specs.Prelude.{ℕ, Bool, true, false, not, ◌&&◌, ◌||◌, nat_lt, List, [], ◌∷◌, slice_get, length}
 use Rattle.std.specs.List.{list_all}
 use Rattle.std.specs.Option.{option_map_or}
 use Rattle.llvm_core.specs.declared.types.LLVMTypeKind.{LLVMTypeKind}
@@ -8,17 +8,14 @@ use Rattle.llvm_core.specs.declared.numbers.LLVMType.{LLVMType}
 use Rattle.llvm_core.specs.declared.numbers.LLVMFunction.{LLVMFunction}
 use Rattle.llvm_core.specs.declared.numbers.LLVMBasicBlock.{LLVMBasicBlock}
 use Rattle.llvm_core.specs.declared.numbers.LLVMInstRef.{LLVMInstRef}
-use Rattle.llvm_core.specs.declared.consts.LLVMConstKind.{LLVMConstKind}
-use Rattle.llvm_core.specs.declared.consts.LLVMConstKind.TheVariants as C
 use Rattle.llvm_core.specs.declared.code.LLVMValue.{LLVMValue}
-use Rattle.llvm_core.specs.declared.code.LLVMValue.TheVariants as V
 use Rattle.llvm_core.specs.declared.code.FunctionData.{FunctionData}
 use Rattle.llvm_core.specs.declared.code.BlockData.{BlockData}
 use Rattle.llvm_core.specs.declared.code.InstData.{InstData}
 use Rattle.llvm_core.specs.Module.{Module}
 use Rattle.llvm_core.specs.Names.{is_good_name}
 use Rattle.llvm_core.specs.Parts.{is_kind, shape_of, value_type, operands}
-use Rattle.kinds.specs.Fitting.{is_first_class, width_of}
+use Rattle.kinds.specs.Fitting.{is_first_class}
 use Rattle.llvm_core.specs.Checked.{is_void, struct_names}
 
 -- ---- names and types
@@ -37,24 +34,12 @@ is_first_class_kind k = is_first_class (shape_of k)
 abbrev pub is_returned_kind : LLVMTypeKind → Bool
 is_returned_kind k = is_void k || is_first_class_kind k
 
--- an integer constant has at most 64 bits; of another constant it is not asked
-abbrev pub is_short_const : List LLVMTypeKind → LLVMConstKind → Bool
-is_short_const types (C.Int t value) = is_kind (λ (k : LLVMTypeKind). nat_le (width_of (shape_of k)) 64) types t
-is_short_const types (C.Filled fill t) = true
-is_short_const types (C.Placeholder number t) = true
-
 module _ (m : Module) where
   abbrev pub is_first_class_type : LLVMType → Bool
   is_first_class_type t = is_kind is_first_class_kind m.types t
 
   abbrev pub is_first_class_value : LLVMValue → Bool
   is_first_class_value v = option_map_or is_first_class_type (value_type m v) false
-
-  -- an integer constant has at most 64 bits; of another operand nothing is asked
-  abbrev pub is_narrow_const : LLVMValue → Bool
-  is_narrow_const (V.Const c) = option_map_or (is_short_const m.types) (slice_get m.consts c.0) true
-  is_narrow_const (V.Param f place) = true
-  is_narrow_const (V.Inst i) = true
 
   -- ---- code
 
@@ -63,7 +48,7 @@ module _ (m : Module) where
   is_named_right x = is_none x.name || (is_good_name x.name && not (is_kind is_void m.types x.ty))
 
   abbrev pub is_narrow_inst_data : InstData → Bool
-  is_narrow_inst_data x = is_named_right x && is_kind is_returned_kind m.types x.ty && list_all is_first_class_value (operands x.inst) && list_all is_narrow_const (operands x.inst)
+  is_narrow_inst_data x = is_named_right x && is_kind is_returned_kind m.types x.ty && list_all is_first_class_value (operands x.inst)
 
   abbrev pub is_narrow_inst : LLVMInstRef → Bool
   is_narrow_inst i = option_map_or is_narrow_inst_data (slice_get m.insts i.0) false

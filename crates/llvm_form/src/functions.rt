@@ -6,19 +6,15 @@ ghost use Rattle.std.specs.Option.{option_map};
 ghost use Rattle.llvm_core.specs.Checked.{IsChecked, struct_names};
 ghost use Rattle.llvm_core.specs.Code.{param_names};
 ghost use Rattle.llvm_core.specs.Names.{is_good_name};
-ghost use Rattle.llvm_core.specs.Parts.{IsConstOver, IsValue, HasValues, is_kind, operands};
-ghost use Rattle.llvm_form.specs.Narrow.{is_good_or_none, is_first_class_type, is_returned_kind, is_first_class_value, is_short_const, is_narrow_const, is_named_right, is_narrow_inst, is_narrow_block, is_narrow_signature, is_narrow_function, is_narrow_function_data, is_narrow};
+ghost use Rattle.llvm_core.specs.Parts.{IsValue, HasValues, is_kind, operands};
+ghost use Rattle.llvm_form.specs.Narrow.{is_good_or_none, is_first_class_type, is_returned_kind, is_first_class_value, is_named_right, is_narrow_inst, is_narrow_block, is_narrow_signature, is_narrow_function, is_narrow_function_data, is_narrow};
 
 use crate::narrow::{is_first_class_kind, is_good_or_none, is_returned_kind, is_void};
 use kinds::names::is_good_name;
 use llvm_core::code::{LLVMInst, LLVMValue, PhiEntry};
-use llvm_core::consts::LLVMConstKind;
 use llvm_core::module::LLVMModule;
 use llvm_core::numbers::{LLVMBasicBlock, LLVMFunction, LLVMInstRef, LLVMStruct, LLVMType};
 use llvm_core::types::LLVMTypeKind;
-
-/// The greatest width of a constant that is translated.
-const MAX_SHORT: u32 = 64;
 
 // ---- values
 
@@ -53,57 +49,6 @@ fn are_first_class_entries(m: &LLVMModule, entries: &[PhiEntry]) -> bool
     true
 }
 
-/// Whether a constant has at most 64 bits, where it is an integer.
-fn is_short_const(m: &LLVMModule, kind: &LLVMConstKind) -> bool
-    requires { IsConstOver m.now.types kind.now }
-    ensures { result ≡ is_short_const m.now.types kind.now }
-{
-    match kind {
-        LLVMConstKind::Int(ty, _) => match m.type_kind(*ty) {
-            LLVMTypeKind::Int(width) => *width <= MAX_SHORT,
-            _ => unreachable!(),
-        },
-        LLVMConstKind::Filled(..) => true,
-        LLVMConstKind::Placeholder(..) => true,
-    }
-}
-
-/// Whether a value that is an integer constant has at most 64 bits; of another it is not asked.
-fn is_narrow_const(m: &LLVMModule, value: LLVMValue) -> bool
-    requires { IsValue m.now value }
-    ensures { result ≡ is_narrow_const m.now value }
-{
-    match value {
-        LLVMValue::Const(c) => is_short_const(m, m.const_kind(c)),
-        LLVMValue::Param(..) => true,
-        LLVMValue::Inst(_) => true,
-    }
-}
-
-fn are_narrow_consts(m: &LLVMModule, values: &[LLVMValue]) -> bool
-    requires { All (IsValue m.now) values.now }
-    ensures { result ≡ list_all (is_narrow_const m.now) values.now }
-{
-    for value in values {
-        if !is_narrow_const(m, *value) {
-            return false;
-        }
-    }
-    true
-}
-
-fn are_narrow_entries(m: &LLVMModule, entries: &[PhiEntry]) -> bool
-    requires { All (λ e. IsValue m.now e.value) entries.now }
-    ensures { result ≡ list_all (λ e. is_narrow_const m.now e.value) entries.now }
-{
-    for entry in entries {
-        if !is_narrow_const(m, entry.value) {
-            return false;
-        }
-    }
-    true
-}
-
 // ---- instructions
 
 #[tactic(auto, using(crate::proofs::AllLaws::all_mapped))]
@@ -118,18 +63,6 @@ fn has_first_class_operands(m: &LLVMModule, inst: &LLVMInst) -> bool
     }
 }
 
-#[tactic(auto, using(crate::proofs::AllLaws::all_mapped))]
-/// Whether the constants among the operands of an instruction have at most 64 bits.
-fn has_narrow_consts(m: &LLVMModule, inst: &LLVMInst) -> bool
-    requires { HasValues m.now inst.now }
-    ensures { result ≡ list_all (is_narrow_const m.now) (operands inst.now) }
-{
-    match inst {
-        LLVMInst::Phi(_, entries) => are_narrow_entries(m, entries.as_slice()),
-        LLVMInst::Row(row) => are_narrow_consts(m, row.operands.as_slice()),
-    }
-}
-
 /// Whether an instruction is narrow: its name, the type of its result, and its operands.
 fn is_narrow_inst(m: &LLVMModule, i: LLVMInstRef) -> bool
     requires { i.0 < length m.now.insts }
@@ -139,10 +72,7 @@ fn is_narrow_inst(m: &LLVMModule, i: LLVMInstRef) -> bool
     let name = m.inst_name(i);
     let named = name.is_empty() || (is_good_name(name) && !is_void(kind));
     let inst = m.inst(i);
-    named
-        && is_returned_kind(kind)
-        && has_first_class_operands(m, inst)
-        && has_narrow_consts(m, inst)
+    named && is_returned_kind(kind) && has_first_class_operands(m, inst)
 }
 
 fn are_narrow_insts(m: &LLVMModule, insts: &[LLVMInstRef]) -> bool

@@ -22,7 +22,7 @@ use Rattle.support.specs.Interned.{IsDistinctList}
 use Rattle.llvm_core.specs.Data.{IntConst, FilledConst, PlaceholderConst, Operand, Constant, Parameter, Result, RowData, Instruction, Phi, Applied, Placed, Block, Function, operand_type, placed_in, targets}
 use Rattle.llvm_core.specs.Edges.{count_of}
 use Rattle.llvm_core.specs.Checked.{ends_in_only}
-use Rattle.llvm_core.specs.Form.{operands_of, constant_type, constant_types, IsOperandOf, IsOperand, targets_of, edges_between, IsTarget, FitsEdges, IsReturning, returns_void, types_of, IsFormRow, IsFormInstruction, IsFormPlaced, is_last, is_phi, HasPhisFirst, IsFormBlock, IsFormFunction, value_types, IsHeldFunction}
+use Rattle.llvm_core.specs.Form.{operands_of, constant_type, constant_types, IsOperandOf, IsOperand, targets_of, edges_between, IsTarget, FitsEdges, IsReturning, returns_void, types_of, IsFormRow, IsFormInstruction, IsFormPlaced, is_last, is_phi, HasPhisFirst, IsFormBlock, IsFormFunction, value_types, IsHeldFunction, IsShortOperand}
 use Rattle.meaning.specs.Renamed.{renamed_operand, renamed_phi_entry, renamed_row, renamed_instruction, renamed_placed, renamed_block, renamed_function}
 use Rattle.meaning.proofs.RenamedLaws.{map_twice, flat_map_agree, renamed_placed_in, renamed_operand_type, renamed_operand_types, renamed_targets}
 use Rattle.renamed_source.proofs.DataLaws.{map_both, joined_mapped}
@@ -102,8 +102,25 @@ module _ (to : List ℕ → List ℕ) where
       let whole = map-append (renamed to) (result_of f.type ∷ params_of f.type ++ results) constants in
       cc
 
+  operand_short : (o : Operand) → IsShortOperand o → IsShortOperand (renamed_operand to o)
+  operand_short (Constant (IntConst w v)) h = h
+  operand_short (Constant (FilledConst fill t)) h = tt
+  operand_short (Constant (PlaceholderConst n t)) h = tt
+  operand_short (Parameter g i) h = tt
+  operand_short (Result n) h = tt
+
+  -- the integer constants that an instruction uses have at most 64 bits
+  abbrev HasShort : Placed → Type 0
+  HasShort p = All IsShortOperand (operands_of p.instruction)
+
+  placed_short : (p : Placed) → HasShort p → HasShort (renamed_placed to p)
+  placed_short p h = subst (All IsShortOperand) (sym (operands_under p.instruction)) (mapped_all IsShortOperand IsShortOperand (renamed_operand to) operand_short (operands_of p.instruction) h)
+
   pub renamed_held : (f : Function) → IsHeldFunction f → IsHeldFunction (renamed_function to f)
-  renamed_held f h = subst (All IsHeldResult) (sym (renamed_value_types f)) (mapped_all IsHeldResult IsHeldResult (renamed to) (renamed_held_result to) (value_types f) h)
+  renamed_held f h = record {
+    types = subst (All IsHeldResult) (sym (renamed_value_types f)) (mapped_all IsHeldResult IsHeldResult (renamed to) (renamed_held_result to) (value_types f) h.types);
+    constants = subst (All HasShort) (sym (renamed_placed_in to f)) (mapped_all HasShort HasShort (renamed_placed to) placed_short (placed_in f) h.constants);
+  }
 
   -- ---- operands
 

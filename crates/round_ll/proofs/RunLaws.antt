@@ -64,6 +64,7 @@ not_too_many most (Some xs) o' input told short many = let same : xs ≡ input =
 -- a translation has no cause to refuse where each use is valid and each type held
 no_cause : (d : ModuleData) (e : TransferErr) → IsValid d → AreHeld d → IsRefusal e → ¬ Same.IsCause d e
 no_cause d (T.Import (C.UndefinedValue name v)) valid held refusal h = no_undefined_use d valid name v h
+no_cause d (T.Import (C.IntConstTooWide width)) valid held refusal h = held.constants width h
 no_cause d (T.Import (C.Unsupported u)) valid held refusal h = held_unsupported d held u h
 no_cause d (T.Import (C.Struct s)) valid held refusal h = h
 no_cause d (T.Import C.NoMemory) valid held refusal h = h

@@ -1,5 +1,5 @@
 -- The status and the line of each answer of the program.
-use Rattle.std.specs.Prelude.{ℕ, List, [], ◌++◌, codes}
+use Rattle.std.specs.Prelude.{ℕ, List, [], ◌++◌, codes, decimal}
 use Rattle.kinds.specs.declared.types.OtherType.{OtherType}
 use Rattle.kinds.specs.declared.types.OtherType.TheVariants as O
 use Rattle.from_consts.specs.declared.conversion_err.ConversionErr.TheVariants as C
@@ -35,9 +35,10 @@ other_head O.PpcFp128 = codes "import PpcFp128"
 other_head O.X86Amx = codes "import X86Amx"
 other_head O.Token = codes "import Token"
 
--- of a refusal of the translation: the half, the kind, and the name where it carries one
+-- of a refusal of the translation: the half, the kind, and the name or the number where it carries one
 abbrev pub refusal_head : TransferErr → List ℕ
 refusal_head (T.Import (C.UndefinedValue name v)) = codes "import UndefinedValue: "
+refusal_head (T.Import (C.IntConstTooWide width)) = codes "import IntConstTooWide: "
 refusal_head (T.Import (C.Unsupported (U.Ty of))) = other_head of
 refusal_head (T.Import (C.Struct s)) = codes "import Struct"
 refusal_head (T.Import C.NoMemory) = codes "import NoMemory"
@@ -50,6 +51,7 @@ refusal_head T.NoMemory = codes "NoMemory"
 
 abbrev pub refusal_name : TransferErr → List ℕ
 refusal_name (T.Import (C.UndefinedValue name v)) = name
+refusal_name (T.Import (C.IntConstTooWide width)) = decimal width
 refusal_name (T.Export (X.UndefinedValue name)) = name
 refusal_name (T.Export (X.UndefinedBlock label)) = label
 refusal_name _ = []

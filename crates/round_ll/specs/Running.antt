@@ -105,7 +105,7 @@ IsDoneOrNoMemory (Done t) = Unit {0}
 IsDoneOrNoMemory NoMemory = Unit {0}
 IsDoneOrNoMemory (Refused f) = ⊥
 
--- Bytes that spell a checked module of the form whose uses are valid and whose types are held are taken: where the source held them, at most
+-- Bytes that spell a checked module of the form whose uses are valid and which is held are taken: where the source held them, at most
 -- 2^24, and neither count of faults rose or stands at its last value, all was done, or memory was wanting. This follows from the causes above, since each of them rules one of these premises out.
 abbrev pub TakesSpelled : Option Command → Told → Told → Told → Told → Ended → Type 0
 TakesSpelled None s s' o o' ended = Unit {0}

@@ -4,6 +4,7 @@ ghost use Rattle.std.specs.Prelude.{◌≡◌};
 ghost use Rattle.round_ll.specs.Ending.{head_of, name_of, other_head, refusal_head, refusal_name, status_of};
 
 use from_consts::conversion_err::{ConversionErr, Unsupported};
+use itoa::Buffer;
 use kinds::types::OtherType;
 use ll_text::read_err::ReadErr;
 use thiserror::Error;
@@ -62,8 +63,8 @@ impl Ended {
         }
     }
 
-    /// The line for the standard error up to a name that it may end in; empty where all was done, and no
-    /// line is owed.
+    /// The line for the standard error up to a name or a number that it may end in; empty where all was done, and
+    /// no line is owed.
     pub fn head(&self) -> &'static str
         ensures { result.now ≡ head_of self.now }
     {
@@ -79,12 +80,12 @@ impl Ended {
         }
     }
 
-    /// The name that the line ends in, empty where it has none.
-    pub fn name(&self) -> &str
+    /// The name that the line ends in, or the number, for which there have to be digits; empty where it has none.
+    pub fn name<'a>(&'a self, digits: &'a mut Buffer) -> &'a str
         ensures { result.now ≡ name_of self.now }
     {
         match self {
-            Ended::Refused(Fault::Transfer(e)) => refusal_name(e),
+            Ended::Refused(Fault::Transfer(e)) => refusal_name(e, digits),
             _ => "",
         }
     }
@@ -103,12 +104,13 @@ fn other_head(of: OtherType) -> &'static str
     }
 }
 
-/// The line of a refusal up to the name in it.
+/// The line of a refusal up to the name or the number in it.
 fn refusal_head(e: &TransferErr) -> &'static str
     ensures { result.now ≡ refusal_head e.now }
 {
     match e {
         TransferErr::Import(ConversionErr::UndefinedValue(..)) => "import UndefinedValue: ",
+        TransferErr::Import(ConversionErr::IntConstTooWide(_)) => "import IntConstTooWide: ",
         TransferErr::Import(ConversionErr::Unsupported(Unsupported::Ty(of))) => other_head(*of),
         TransferErr::Import(ConversionErr::Struct(_)) => "import Struct",
         TransferErr::Import(ConversionErr::NoMemory) => "import NoMemory",
@@ -123,12 +125,13 @@ fn refusal_head(e: &TransferErr) -> &'static str
     }
 }
 
-/// The name in the line of a refusal, empty where it has none.
-fn refusal_name(e: &TransferErr) -> &str
+/// The name in the line of a refusal, or the number, empty where it has none.
+fn refusal_name<'a>(e: &'a TransferErr, digits: &'a mut Buffer) -> &'a str
     ensures { result.now ≡ refusal_name e.now }
 {
     match e {
         TransferErr::Import(ConversionErr::UndefinedValue(name, _)) => name.as_str(),
+        TransferErr::Import(ConversionErr::IntConstTooWide(width)) => digits.format(*width),
         TransferErr::Export(ToLLVMErr::UndefinedValue(name)) => name.as_str(),
         TransferErr::Export(ToLLVMErr::UndefinedBlock(label)) => label.as_str(),
         _ => "",

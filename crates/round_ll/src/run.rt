@@ -11,6 +11,7 @@ use crate::ended::{Ended, Fault};
 use crate::outside::{Failed, Sink, Source, read_all, write_all};
 use crate::rounding::{Output, round_text};
 use crate::stopped::Stopped;
+use itoa::Buffer;
 use std::alloc::Global;
 
 /// Does what the words ask for, and answers how it ended.
@@ -53,11 +54,12 @@ pub fn say<E: Sink>(err: &mut E, ended: &Ended)
 {
     let head = ended.head();
     if !head.is_empty() {
-        let _ = write_line(err, head, ended.name());
+        let mut digits = Buffer::new();
+        let _ = write_line(err, head, ended.name(&mut digits));
     }
 }
 
-/// Writes a line: what it begins with, the name that it may end in, and its end.
+/// Writes a line: what it begins with, the name or the number that it may end in, and its end.
 fn write_line<E: Sink>(err: &mut E, head: &str, name: &str) -> Result<(), Failed>
     ensures { Says (record { bytes = E.taken err.old; faults = E.faults err.old }) (record { bytes = E.taken err.new; faults = E.faults err.new }) (head.now ++ name.now ++ codes "\n") }
 {

@@ -1,5 +1,5 @@
 -- A module that an export made is of the form and checked, where its names differ and each block with arguments is an edge's target.
-use Rattle.std.proofs.Common.{ℕ, suc, ◌≡◌, ◌^◌, ◌<◌, List, [], ◌∷◌, ◌++◌, Some, All, length, map, slice_get, refl, sym, subst}
+use Rattle.std.proofs.Common.{ℕ, suc, ◌≡◌, ◌^◌, ◌<◌, ◌≤◌, List, [], ◌∷◌, ◌++◌, Some, All, length, map, slice_get, refl, sym, subst, arith}
 use Rattle.std.specs.List.{flat_map}
 use Rattle.std.proofs.lemmas.List.{map-append}
 use Rattle.std.proofs.lemmas.List.Concat.{flat_map-append}
@@ -8,13 +8,13 @@ use Rattle.kinds.specs.declared.types.OtherType.{OtherType}
 use Rattle.kinds.specs.Types.{TypeTree, VoidType, RefusedType, NamedType, FunctionType, types_list, parts_of, result_of, params_of}
 use Rattle.kinds.specs.Structs.{Struct, IsFormStruct, IsNested, Holds, Itself, InPart, InField}
 use Rattle.kinds.proofs.NestLaws.{void_nested}
-use Rattle.held_types.specs.Held.{AreHeld}
+use Rattle.held_types.specs.Held.{AreHeld, HasTypeWith, HasWideConst}
 use Rattle.llvm_core.specs.Module.{Module}
 use Rattle.support.specs.Interned.{IsDistinctList}
 use Rattle.support.proofs.ListLaws.{all_from}
 use Rattle.llvm_core.specs.Data as L
 use Rattle.llvm_core.specs.Data.{Placed, ModuleData, data_of, placed_in}
-use Rattle.llvm_core.specs.Form.{IsForm, IsFormFunction, IsFewIn, HasDistinctNames, HasFew, constant_types, local_names, value_types}
+use Rattle.llvm_core.specs.Form.{IsForm, IsFormFunction, IsFewIn, IsHeldFunction, IsShortOperand, HasDistinctNames, HasFew, constant_types, local_names, operands_of, value_types}
 use Rattle.dialect_types.specs.Trees.{structs_of, IsStored}
 use Rattle.dialect_types.proofs.StructLaws.{store_lacks_none, stored_structs, stored_apart}
 use Rattle.dialect_core.specs.ContextData.{ContextData}
@@ -93,10 +93,21 @@ module _ (structs : List Struct) where
       All-cons LacksNone (result_of f.type) (params_of f.type ++ results_of f ++ constants_in f) (result_lacks f.type h.type)
       (All-append LacksNone (params_of f.type ++ results_of f) (constants_in f) (All-append LacksNone (params_of f.type) (results_of f) (params_lack f.type h.type) h.results) h.constants)
 
-  pub held_if : (d : ModuleData) → d.structs ≡ structs → All (HasTypes LacksNone void_lacks) d.functions → AreHeld d
-  held_if d same all of h =
+  none_lacked : (d : ModuleData) → d.structs ≡ structs → All (HasTypes LacksNone void_lacks) d.functions → (of : OtherType) → HasTypeWith d (RefusedType of) → ⊥
+  none_lacked d same all of h =
       let f = all_at (HasTypes LacksNone void_lacks) d.functions h.place h.f all h.at in
       all_at LacksNone (value_types h.f) h.index h.type (values_lack h.f f) h.here of (subst (λ (ss : List Struct). Holds ss (RefusedType of) h.type) same h.holds)
+
+  none_wide : (d : ModuleData) → All IsHeldFunction d.functions → (width : ℕ) → HasWideConst d width → ⊥
+  none_wide d all width h =
+      let f = all_at IsHeldFunction d.functions h.place h.f all h.at in
+      let uses = all_at (λ (p : Placed). All IsShortOperand (operands_of p.instruction)) (placed_in h.f) h.index h.p f.constants h.here in
+      let small : width ≤ 64 = all_at IsShortOperand (operands_of h.p.instruction) h.operand (L.Constant (L.IntConst width h.value)) uses h.used in
+      let wide = h.wide in
+      omega (arith, small, wide)
+
+  pub held_if : (d : ModuleData) → d.structs ≡ structs → All (HasTypes LacksNone void_lacks) d.functions → All IsHeldFunction d.functions → AreHeld d
+  held_if d same all held = record { types = none_lacked d same all; constants = none_wide d held }
 
 -- ---- the module back
 
@@ -112,6 +123,7 @@ module _ (c : ContextData) (m : ℕ) (stored : IsStored c.types) (typed : D.IsTy
   held_exported =
       let names = names_hold (LacksNone (structs_of c.types)) c m typed (λ t lt of. store_lacks_none c.types stored of t lt) in
       held_if (structs_of c.types) (data_of back) exported.structs_are (all_types (LacksNone (structs_of c.types)) (void_lacks (structs_of c.types)) (D.data_of c m).functions (data_of back).functions made names)
+      (each IsHeldFunction (λ g f h. h.held) (D.data_of c m).functions (data_of back).functions exported.functions)
 
   pub form_exported : All HasTargets (D.data_of c m).functions → IsForm (data_of back)
   form_exported targets =

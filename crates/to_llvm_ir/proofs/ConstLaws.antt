@@ -1,8 +1,9 @@
 -- What a constant operation becomes: a constant of the form, of the type of the operation's result, with its term.
-use Rattle.std.proofs.Common.{◌≡◌, ◌<◌, ◌≤◌, ◌^◌, ℕ, Bool, true, false, not, if◌then◌else◌, List, [], Option, Some, refl, sym, ap, subst, ◌∙◌}
+use Rattle.std.proofs.Common.{◌≡◌, ◌<◌, ◌≤◌, ◌^◌, ℕ, Bool, true, false, not, if◌then◌else◌, List, [], Option, Some, refl, sym, ap, subst, ◌∙◌, arith}
 use Rattle.std.specs.Prelude.{IfSome}
 use Rattle.std.proofs.lemmas.Bool.{cond-false, not-false}
 use Rattle.std.proofs.lemmas.Nat.{pow_pos}
+use Rattle.std.proofs.Math.Nat.{pow-le-pow_right}
 use Rattle.std.proofs.lemmas.Option.{same_Some}
 use Rattle.kinds.specs.declared.fill.Fill.{Fill}
 use Rattle.kinds.specs.declared.fill.Fill.TheVariants as Fills
@@ -10,11 +11,12 @@ use Rattle.kinds.specs.declared.fitting.Shape.{Shape}
 use Rattle.kinds.specs.Fill.{is_own_fill}
 use Rattle.kinds.specs.Fitting.{is_number}
 use Rattle.kinds.specs.Types.{shape}
-use Rattle.kinds.specs.Held.{width_in, IsHeld, IsShortWidth}
+use Rattle.kinds.specs.Held.{width_in, IsHeld}
 use Rattle.kinds.proofs.HeldLaws.{held_int}
 use Rattle.llvm_core.specs.Data as L
 use Rattle.llvm_core.specs.Data.{ConstTree, IntConst, FilledConst, filled_const, Operand}
 use Rattle.llvm_core.specs.Form as F
+use Rattle.llvm_core.specs.Parts.{IsIntAt}
 use Rattle.dialect_types.specs.Trees.{TypeTree, VoidType, IntType, PointerType, FloatingType, RefusedType, ArrayType, VectorType, StructType, NamedType, FunctionType, AttrTree, IntegerAttr}
 use Rattle.dialect_core.specs.declared.ops.Value.{Value}
 use Rattle.dialect_core.specs.declared.ops.Successor.{Successor}
@@ -91,15 +93,23 @@ filled_type fill t = by (is_own_fill fill (shape t)) refl
     by true e = refl
     by false e = sym (number_type t (not_own fill (shape t) e))
 
--- it is of the form, where the zero of an integer type has at most 64 bits
-pub filled_form : (fill : Fill) (t : TypeTree) → IsHeld t → (is_own_fill fill (shape t) ≡ false → width_in t ≤ 64) → F.IsFormConst (filled_const fill t)
-filled_form fill t held short = by (is_own_fill fill (shape t)) refl
+-- it is of the form
+pub filled_form : (fill : Fill) (t : TypeTree) → IsHeld t → F.IsFormConst (filled_const fill t)
+filled_form fill t held = by (is_own_fill fill (shape t)) refl
   where
     by : (b : Bool) → is_own_fill fill (shape t) ≡ b → F.IsFormConst (if b then FilledConst fill t else IntConst (width_in t) 0)
     by true e = e
     by false e =
         let width = held_int (width_in t) (subst IsHeld (number_type t (not_own fill (shape t) e)) held) in
-        ((width.0, short e), pow_pos (width_in t))
+        (width.0, (pow_pos (width_in t), pow_pos 128))
+
+-- and short, where the zero of an integer type has at most 64 bits
+filled_short : (fill : Fill) (t : TypeTree) → (is_own_fill fill (shape t) ≡ false → width_in t ≤ 64) → F.IsShortConst (filled_const fill t)
+filled_short fill t short = by (is_own_fill fill (shape t)) refl
+  where
+    by : (b : Bool) → is_own_fill fill (shape t) ≡ b → F.IsShortConst (if b then FilledConst fill t else IntConst (width_in t) 0)
+    by true e = tt
+    by false e = short e
 
 -- LLVM's term of it is that of the dialect
 pub filled_same : (back : Setting) (fill : Fill) (t : TypeTree) → llvm.const_term back (filled_const fill t) ≡ filled_term fill t
@@ -111,6 +121,12 @@ filled_same back fill t = by (is_own_fill fill (shape t)) refl
 
 -- ---- any constant
 
+-- an integer of an attribute is one that a module of LLVM keeps
+pub kept_int : (w m : ℕ) → w ≤ 64 → m < 2 ^ w → IsIntAt w m
+kept_int w m most below =
+    let wide : 2 ^ w ≤ 2 ^ 128 = pow-le-pow_right {n = 2} (omega arith) {i = w} {j = 128} (omega (arith, most)) in
+    (below, omega (arith, below, wide))
+
 -- its type is that of the result
 pub constant_typed : (T : Typing) (g : Func) (vs : List Value) (own : Option TypeTree) (ss : List Successor) (t : TypeTree) (k : Kind) → is_constant_kind k ≡ true → own ≡ Some t → IsOfKind T g vs own ss k → L.const_type (constant_of own k) ≡ t
 constant_typed T g vs own ss t (ConstantOp (IntegerAttr u m)) e type h =
@@ -120,15 +136,22 @@ constant_typed T g vs own ss t (FilledOp fill) e type h = filled_type fill (opti
 constant_typed T g vs own ss t (RowOp op) e type h = absurd (let never : false ≡ true = e in cc)
 
 -- it is of the form, where the operation is
-pub constant_form : (T : Typing) (g : Func) (vs : List Value) (own : Option TypeTree) (ss : List Successor) (k : Kind) → is_constant_kind k ≡ true → IsOfKind T g vs own ss k → IfSome own IsHeld → IfSome own (IsShortKind k) → F.IsFormConst (constant_of own k)
-constant_form T g vs own ss (ConstantOp (IntegerAttr u m)) e h held short =
+pub constant_form : (T : Typing) (g : Func) (vs : List Value) (own : Option TypeTree) (ss : List Successor) (k : Kind) → is_constant_kind k ≡ true → IsOfKind T g vs own ss k → IfSome own IsHeld → F.IsFormConst (constant_of own k)
+constant_form T g vs own ss (ConstantOp (IntegerAttr u m)) e h held =
     let i = h.integer in
-    subst (λ (w : ℕ). IsShortWidth w × (m < 2 ^ w)) (sym (ap width_in i.1)) (i.2, i.3)
-constant_form T g vs own ss (FilledOp fill) e h held short =
+    subst (λ (w : ℕ). (1 ≤ w) × IsIntAt w m) (sym (ap width_in i.1)) (i.2.0, kept_int i.0 m i.2.1 i.3)
+constant_form T g vs own ss (FilledOp fill) e h held =
     let type = h.result in
-    subst (λ (o : Option TypeTree). F.IsFormConst (filled_const fill (option_type o))) (sym type)
-    (filled_form fill h.type (subst (λ (o : Option TypeTree). IfSome o IsHeld) type held) (subst (λ (o : Option TypeTree). IfSome o (IsShortKind (FilledOp fill))) type short))
-constant_form T g vs own ss (RowOp op) e h held short = absurd (let never : false ≡ true = e in cc)
+    subst (λ (o : Option TypeTree). F.IsFormConst (filled_const fill (option_type o))) (sym type) (filled_form fill h.type (subst (λ (o : Option TypeTree). IfSome o IsHeld) type held))
+constant_form T g vs own ss (RowOp op) e h held = absurd (let never : false ≡ true = e in cc)
+
+-- and short
+pub constant_short : (T : Typing) (g : Func) (vs : List Value) (own : Option TypeTree) (ss : List Successor) (k : Kind) → is_constant_kind k ≡ true → IsOfKind T g vs own ss k → IfSome own (IsShortKind k) → F.IsShortConst (constant_of own k)
+constant_short T g vs own ss (ConstantOp (IntegerAttr u m)) e h short = let i = h.integer in subst (λ (w : ℕ). w ≤ 64) (sym (ap width_in i.1)) i.2.1
+constant_short T g vs own ss (FilledOp fill) e h short =
+    let type = h.result in
+    subst (λ (o : Option TypeTree). F.IsShortConst (filled_const fill (option_type o))) (sym type) (filled_short fill h.type (subst (λ (o : Option TypeTree). IfSome o (IsShortKind (FilledOp fill))) type short))
+constant_short T g vs own ss (RowOp op) e h short = absurd (let never : false ≡ true = e in cc)
 
 -- the operation holds the term of it
 pub constant_holds : (setting back : Setting) (g : Func) (o : DialectOp) (k : Kind) → is_constant_kind k ≡ true → dialect.action setting g o k ≡ Holds (rename same_places (llvm.const_term back (constant_of o.result k)))

@@ -16,7 +16,7 @@ use Rattle.llvm_core.specs.declared.consts.LLVMConstKind.{LLVMConstKind}
 use Rattle.llvm_core.specs.declared.consts.LLVMConstKind.TheVariants as C
 use Rattle.llvm_core.specs.Module.{Module}
 use Rattle.llvm_core.specs.Sound.{IsModule}
-use Rattle.llvm_core.specs.Parts.{const_type, one_form}
+use Rattle.llvm_core.specs.Parts.{IsIntAt, const_type, one_form}
 use Rattle.llvm_core.specs.Data.{ConstTree, IntConst, FilledConst, filled_const, const_tree, trees_of}
 use Rattle.llvm_core.proofs.WholeTypes.{shape_there}
 use Rattle.dialect_types.specs.declared.types.TypeHandle.{TypeHandle}
@@ -38,7 +38,7 @@ use Rattle.to_llvm_ir.specs.Order.{StandsBeforeIn}
 use Rattle.to_llvm_ir.specs.Accepted.{IsAcceptedOp}
 use Rattle.to_llvm_ir.specs.Growth.{IsTypeOf}
 use Rattle.to_llvm_ir.specs.States.{Spot, IsSpot}
-use Rattle.to_llvm_ir.proofs.ConstLaws.{constant_of, constant_takes}
+use Rattle.to_llvm_ir.proofs.ConstLaws.{constant_of, constant_takes, kept_int}
 use Rattle.to_llvm_ir.proofs.GrowthLaws.{int_at}
 use Rattle.to_llvm_ir.proofs.OpLaws.{spot_kind, spot_parts, result_is, result_held}
 
@@ -73,10 +73,10 @@ constant_type_there c op value ty n typed at value_is = by (slice_get c.ops op.0
         subst (HasKindTypesBelow (length c.types)) kind (typed.ops op.0 x e).kind
 
 -- the constant of LLVM fits its type
-pub constant_fits : (m : Module) (o : DialectOp) (type : TypeTree) (value from : ℕ) (ty : LLVMType) → IsModule m → ConstantParts o type value → IsTypeOf m ty type → from ≡ value → (w : ℕ) × (slice_get m.types ty.0 ≡ Some (T.Int w)) × (from < 2 ^ w)
+pub constant_fits : (m : Module) (o : DialectOp) (type : TypeTree) (value from : ℕ) (ty : LLVMType) → IsModule m → ConstantParts o type value → IsTypeOf m ty type → from ≡ value → (w : ℕ) × (slice_get m.types ty.0 ≡ Some (T.Int w)) × IsIntAt w from
 constant_fits m o type value from ty s parts ty_is from_is =
     let h = parts.integer in
-    (h.0, int_at m ty h.0 s (subst (IsTypeOf m ty) h.1 ty_is), subst (λ (n : ℕ). n < 2 ^ h.0) (sym from_is) h.3)
+    (h.0, int_at m ty h.0 s (subst (IsTypeOf m ty) h.1 ty_is), subst (λ (n : ℕ). IsIntAt h.0 n) (sym from_is) (kept_int h.0 value h.2.1 h.3))
 
 -- ---- zero, undef and poison
 

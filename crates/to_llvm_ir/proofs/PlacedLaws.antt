@@ -190,7 +190,7 @@ module _ (g : Func) (form : IsFormFunc g) (n : Numbers) (order : IsOrder (length
 
   const_form : (o : DialectOp) (t : TypeTree) → IsFormOp g o → is_constant o ≡ true → o.result ≡ Some t → F.IsFormConst (constant_of o.result o.kind) × (L.const_type (constant_of o.result o.kind) ≡ t)
   const_form o t h constant type = (
-    constant_form (value_type g) g o.operands o.result o.successors o.kind constant h.kind h.result h.short,
+    constant_form (value_type g) g o.operands o.result o.successors o.kind constant h.kind h.result,
     constant_typed (value_type g) g o.operands o.result o.successors t o.kind constant type h.kind,
   )
 

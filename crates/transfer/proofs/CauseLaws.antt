@@ -92,14 +92,16 @@ only_in_empty c new is e h = all_from (λ (s : Struct). IsIn is s.name) (structs
 -- of an import into a context without structs
 pub of_import_cause : (m : ModuleData) (e : ConversionErr) → Import.IsCause [] m e → IsCause m (of_import e)
 of_import_cause m (C.UndefinedValue name v) h = h
+of_import_cause m (C.IntConstTooWide width) h = h
 of_import_cause m (C.Unsupported u) h = h
 of_import_cause m (C.Struct (S.DifferentBody identifier)) h = absurd (none_there identifier h.other.other h.other.there)
 of_import_cause m (C.Struct S.NoMemory) h = absurd h
 of_import_cause m C.NoMemory h = tt
 
--- a module whose uses are valid and whose types are held is refused for want of memory alone
+-- a module whose uses are valid and which is held is refused for want of memory alone
 pub only_memory : (m : ModuleData) (e : TransferErr) → IsCause m e → IsValid m → AreHeld m → e ≡ T.NoMemory
 only_memory m (T.Import (C.UndefinedValue name v)) h valid held = absurd (no_undefined_use m valid name v h)
+only_memory m (T.Import (C.IntConstTooWide width)) h valid held = absurd (held.constants width h)
 only_memory m (T.Import (C.Unsupported u)) h valid held = absurd (held_unsupported m held u h)
 only_memory m (T.Import (C.Struct s)) h valid held = absurd h
 only_memory m (T.Import C.NoMemory) h valid held = absurd h

@@ -19,6 +19,7 @@ use Rattle.from_llvm_ir.specs.declared.importing.Imported.{Imported}
 use Rattle.from_llvm_ir.specs.Match.{match_of}
 use Rattle.from_llvm_ir.specs.Imported.{AreImported, BeginsWith, IsIn}
 use Rattle.from_llvm_ir.specs.Structs.{IsStructMatch, identifiers}
+use Rattle.held_types.specs.Held.{HasWideConst}
 use Rattle.from_llvm_ir.specs.Refusals as Import
 use Rattle.to_llvm_ir.specs.Exported.{ExportedFunction}
 use Rattle.from_consts.specs.declared.conversion_err.ConversionErr.{ConversionErr}
@@ -74,6 +75,7 @@ pub record SameThroughout (m : ModuleData) (t : Transferred) : Type 0 where
 -- a refusal of the import, whose want of memory has an answer of its own
 abbrev pub of_import : ConversionErr → TransferErr
 of_import (C.UndefinedValue name v) = E.Import (C.UndefinedValue name v)
+of_import (C.IntConstTooWide width) = E.Import (C.IntConstTooWide width)
 of_import (C.Unsupported u) = E.Import (C.Unsupported u)
 of_import (C.Struct s) = E.Import (C.Struct s)
 of_import C.NoMemory = E.NoMemory
@@ -90,6 +92,7 @@ of_export X.NoMemory = E.NoMemory
 abbrev pub IsCause : ModuleData → TransferErr → Type 0
 IsCause d (E.Import C.NoMemory) = ⊥
 IsCause d (E.Import (C.UndefinedValue name v)) = Import.HasUndefinedUse d name v
+IsCause d (E.Import (C.IntConstTooWide width)) = HasWideConst d width
 IsCause d (E.Import (C.Unsupported u)) = Import.IsUnsupported d u
 IsCause d (E.Import (C.Struct s)) = ⊥
 IsCause d (E.Export e) = ⊥

@@ -28,7 +28,7 @@ pub struct Begun {
 }
 
 /// Imports a checked module of the form into a context of its own. It is refused only where the import refuses it. So a
-/// module whose uses are valid and whose types are held is answered `Ok` or `NoMemory`.
+/// module whose uses are valid and which is held is answered `Ok` or `NoMemory`.
 pub fn begin(alloc: Global, module: &LLVMModule) -> Result<Begun, TransferErr>
     requires form { IsForm (data_of «module».now) }
     requires checked { IsChecked «module».now }
@@ -67,7 +67,7 @@ pub fn finish(alloc: Global, begun: Begun) -> Result<Transferred, TransferErr>
 /// The dialect module of a checked module of the form, in a context of its own, the module back, and the matches of blocks and
 /// of structs with a name. The module back is checked, and the dialect module stands in its
 /// context as an export reads it. It is refused only where the import
-/// refuses it: the export takes all that an import makes. So a module whose uses are valid and whose types are held is
+/// refuses it: the export takes all that an import makes. So a module whose uses are valid and which is held is
 /// answered `Ok` or `NoMemory`.
 pub fn transfer(alloc: Global, module: &LLVMModule) -> Result<Transferred, TransferErr>
     requires form { IsForm (data_of «module».now) }

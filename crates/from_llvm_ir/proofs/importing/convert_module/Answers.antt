@@ -1,6 +1,4 @@
 -- What `importing::convert_module` owes besides what the check finds.
-use Rattle.std.proofs.Common.{subst}
-use Rattle.std.specs.Prelude.{IfErr}
 use Rattle.std.proofs.lemmas.Result.{IfOk-weaker}
 use Rattle.llvm_core.specs.Data.{data_of}
 use Rattle.meaning.specs.Code.{SameCode}
@@ -14,16 +12,16 @@ use Rattle.dialect_types.specs.Trees.{structs_of}
 use Rattle.from_consts.specs.Forward.{of_held}
 use Rattle.from_llvm_ir.specs.Refusals.{IsCause}
 use Rattle.held_types.specs.Held.{AreHeld}
-use Rattle.held_types.proofs.WalkLaws.{passed_on}
+use Rattle.held_types.proofs.WalkLaws.{if_err_as, passed_on}
 use Rattle.from_llvm_ir.proofs.KeepLaws.{keeps_none, others_kept}
-use Rattle.from_llvm_ir.proofs.RefusedLaws.{held_cause, held_unsupported}
+use Rattle.from_llvm_ir.proofs.RefusedLaws.{held_cause, held_late}
 use Rattle.from_llvm_ir.proofs.SameLaws.{same_imported}
 use Rattle.from_llvm_ir.proofs.importing.convert_module.Goals as goal
 
 pub returns-in_err-held-clause-cause : goal.returns-in_err-held-clause-cause
 returns-in_err-held-clause-cause c =
     passed_on c.from_residual.result (of_held c.in_err-held.field-0.0) _ c.from_residual.ensures.1
-    (held_cause (data_of c.args.«module».now) (structs_of c.args.ctx.now.types) c.in_err-held.field-0.0 c.in_err-held.ensures.lacks)
+    (held_cause (data_of c.args.«module».now) (structs_of c.args.ctx.now.types) c.in_err-held.field-0.0 c.in_err-held.ensures.cause)
 
 pub returns-in_err-held-clause-others : goal.returns-in_err-held-clause-others
 returns-in_err-held-clause-others c = others_kept c.args.ctx.now c.args.ctx.now (keeps_none _ _ c.args.ctx.now).leaves
@@ -61,9 +59,10 @@ returns-clause-held c =
     IfOk-weaker c.import_counted.result (λ (i : Imported). IsImported (seen_by i d) c.import_counted.new.ctx i) (λ (i : Imported). AreHeld d) (λ i made. c.in_ok-held.ensures.held) c.import_counted.ensures.imported
 
 pub returns-clause-still : goal.returns-clause-still
-returns-clause-still c = λ u is.
+returns-clause-still c =
     let d = data_of c.args.«module».now in
-    absurd (held_unsupported d c.in_ok-held.ensures.held u (subst (λ r. IfErr r (IsCause (structs_of c.make_room.new.ctx.types) d)) is c.import_counted.ensures.cause))
+    let structs = structs_of c.make_room.new.ctx.types in
+    if_err_as c.import_counted.result (IsCause structs d) _ (λ e cause early. absurd (held_late d structs c.in_ok-held.ensures.held e cause early)) c.import_counted.ensures.cause
 
 pub returns-clause-only : goal.returns-clause-only
 returns-clause-only c = rw c.make_room.ensures at c.import_counted.ensures.only

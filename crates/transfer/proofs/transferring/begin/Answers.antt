@@ -1,5 +1,5 @@
--- A new context is typed, what an import promises is what an export needs, and a module whose uses are valid and whose
--- types are held is refused for want of memory alone.
+-- A new context is typed, what an import promises is what an export needs, and a module whose uses are valid and which
+-- is held is refused for want of memory alone.
 use Rattle.std.proofs.Common.{◌≡◌, IfErr, rules}
 use Rattle.std.proofs.lemmas.Result.{IfErr-weaker}
 use Rattle.llvm_core.specs.Data.{data_of}
