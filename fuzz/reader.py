@@ -6,8 +6,8 @@ import re
 
 from names import name_said, text_said
 from value_types import (
-    BIT, COUNTS, DEEPEST, FLOATING, LACKED, LENGTHS, MAX_WIDTH, SPACES,
-    Array, Floating, Integer, Lacked, Named, Pointer, Struct, Vector, depth, filled, has_constants, is_element, is_field, is_integer, is_item,
+    BIT, COUNTS, DEEPEST, FLOATING, LACKED, LENGTHS, MAX_VALUE, MAX_WIDTH, SPACES,
+    Array, Floating, Integer, Lacked, Named, Pointer, Struct, Vector, depth, filled, is_element, is_field, is_integer, is_item,
 )
 
 PREDICATES = "eq ne ugt uge ult ule sgt sge slt sle".split()
@@ -201,9 +201,10 @@ class Reader:
             need(found, f"value {text!r} of {type}")
             return found
         need(kind == "number", f"value {text!r}")
-        need(has_constants(type), f"a constant of {type}")
+        need(is_integer(type), f"a constant of {type}")
         number, width = int(text), type.width
-        need(-(1 << (width - 1)) <= number < (1 << width), f"range of {text}")
+        need(-(1 << (width - 1)) <= number < (1 << min(width, MAX_VALUE)), f"range of {text}")
+        need(number >= 0 or width <= MAX_VALUE, f"{text} at more than {MAX_VALUE} bits")
         return (type, number % (1 << width))
 
     def file(self):

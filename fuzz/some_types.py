@@ -2,7 +2,7 @@
 import re
 
 from some_names import distinct, written
-from value_types import BIT, FLOATING, MAX_CONSTANT, MAX_WIDTH, SPACES
+from value_types import BIT, FLOATING, MAX_CONSTANT, MAX_VALUE, MAX_WIDTH, SPACES
 from value_types import Array, Floating, Integer, Named, Pointer, Struct, Vector, has_constants, is_integer
 
 NUMBER = re.compile(r"(0|[1-9][0-9]{0,8})\Z")  # a name of a struct that is written as a number
@@ -39,12 +39,18 @@ def short_types(rng):
 
 
 def constant(rng, type):
-    """A constant as it may be written: an integer where the type has them."""
-    if not has_constants(type) or rng.random() < 0.2:
+    """A constant as it may be written: an integer where the type has them that are translated, and now and then one that is
+    read and refused."""
+    wide = is_integer(type) and not has_constants(type)
+    if wide and rng.random() < 0.005:
+        return "zeroinitializer"
+    if not is_integer(type) or rng.random() < (0.98 if wide else 0.2):
         words = ["undef", "poison"] + (["null"] if isinstance(type, Pointer) else [])
-        return rng.choice(words + (["zeroinitializer"] if has_constants(type) or not is_integer(type) else []))
+        return rng.choice(words + ([] if wide else ["zeroinitializer"]))
     if type == BIT:
         return rng.choice(["true", "false", "1", "0", "-1"])
+    if type.width > MAX_VALUE:
+        return str(rng.choice([0, 1, (1 << MAX_VALUE) - 1, rng.randrange(1 << MAX_VALUE)]))
     top = 1 << (type.width - 1)
     number = rng.choice([0, 1, 2, 3, 7, -1, -top, top - 1, top, 2 * top - 1, rng.randrange(-top, 2 * top)])
     number = number if -top <= number < 2 * top else 1

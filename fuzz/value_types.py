@@ -4,7 +4,8 @@ import dataclasses
 from names import printed
 
 MAX_WIDTH = 1 << 23  # of an integer, in bits
-MAX_CONSTANT = 64  # the width of a constant
+MAX_CONSTANT = 64  # the width of an integer constant that is translated
+MAX_VALUE = 128  # the bits of its value that are read
 SPACES = 1 << 24  # so many address spaces there are
 FLOATING = {"half": "fp16", "bfloat": "bf16", "float": "fp32", "double": "fp64"}  # with their words in the dialect
 # types that the dialect lacks, with the words by which they are refused
@@ -215,10 +216,10 @@ def filled(type, word):
     if word == "null":
         return (type, "zero") if isinstance(type, Pointer) else None
     if word == "zeroinitializer" and is_integer(type):
-        return (type, 0) if has_constants(type) else None
+        return (type, 0)
     return (type, FILLS[word]) if word in FILLS else None
 
 
 def has_constants(type):
-    """Whether integer constants of the type are translated."""
+    """Whether integer constants of the type are translated: those of others are read, and refused."""
     return is_integer(type) and type.width <= MAX_CONSTANT
