@@ -6,8 +6,9 @@ use Rattle.std.specs.Option.{option_map, option_and_then}
 use Rattle.std.proofs.lemmas.Option.{slice_get_within, get_or_from_slice_get}
 use Rattle.dialect_types.specs.declared.types.TypeHandle.{TypeHandle}
 use Rattle.dialect_types.specs.declared.types.TypeKind.{TypeKind}
-use Rattle.dialect_types.specs.declared.attrs.ConstAttr.TheVariants as A
-use Rattle.dialect_types.specs.Trees.{TypeTree, IntegerAttr, type_at, type_trees}
+use Rattle.dialect_types.specs.Trees.{TypeTree, type_at, type_trees}
+use Rattle.const_attrs.specs.Trees.{AttrTree, attr_data}
+use Rattle.const_attrs.proofs.KeptLaws.{tree_same}
 use Rattle.dialect_core.specs.declared.numbers.OpRef.{OpRef}
 use Rattle.dialect_core.specs.declared.numbers.BlockRef.{BlockRef}
 use Rattle.dialect_core.specs.declared.ops.Symbol.{Symbol}
@@ -32,7 +33,7 @@ module _ (ts us : List TypeTree) (c : ContextData) (types : List TypeKind) (type
   kind_same K.Module h = refl
   kind_same K.Func h = refl
   kind_same (K.Filled fill) h = refl
-  kind_same (K.Constant (A.Integer t v)) h = ap (λ (x : TypeTree). Some (ConstantOp (IntegerAttr x v))) (same t h)
+  kind_same (K.Constant value) h = ap (λ (x : AttrTree). Some (ConstantOp x)) (tree_same ts us (length c.types) same (attr_data value) h)
   kind_same (K.Row op) h = refl
 
   result_same : (t : Option TypeHandle) → IfSome t (λ (t : TypeHandle). t.0 < length c.types) → option_map (type_at us) t ≡ option_map (type_at ts) t

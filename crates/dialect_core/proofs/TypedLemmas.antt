@@ -7,7 +7,8 @@ use Rattle.dialect_types.proofs.TreeLemmas.{push_cases}
 use Rattle.support.specs.Changes.{with_change}
 use Rattle.dialect_types.specs.declared.types.TypeHandle.{TypeHandle}
 use Rattle.dialect_types.specs.declared.types.TypeKind.{TypeKind}
-use Rattle.dialect_types.specs.declared.attrs.ConstAttr.TheVariants as A
+use Rattle.const_attrs.specs.Trees.{attr_data}
+use Rattle.const_attrs.proofs.KeptLaws.{types_still}
 use Rattle.dialect_core.specs.declared.numbers.OpRef.{OpRef}
 use Rattle.dialect_core.specs.declared.numbers.BlockRef.{BlockRef}
 use Rattle.dialect_core.specs.declared.ops.Symbol.{Symbol}
@@ -81,7 +82,7 @@ symbol_still n m more (Some s) h = omega arith
 kind_still : (n m : ℕ) → n ≤ m → (k : OpKind) → HasKindTypesBelow n k → HasKindTypesBelow m k
 kind_still n m more K.Module h = tt
 kind_still n m more K.Func h = tt
-kind_still n m more (K.Constant (A.Integer t v)) h = omega arith
+kind_still n m more (K.Constant value) h = types_still n m more (attr_data value) h
 kind_still n m more (K.Filled fill) h = tt
 kind_still n m more (K.Row op) h = tt
 

@@ -12,7 +12,8 @@ use Rattle.kinds.specs.declared.rules.Takes.TheVariants as O
 use Rattle.kinds.specs.Types.{result_of}
 use Rattle.kinds.specs.Rules.{target_count}
 use Rattle.kinds.specs.Table.{rule_of}
-use Rattle.dialect_types.specs.Trees.{TypeTree, IntegerAttr, type_at, type_trees}
+use Rattle.dialect_types.specs.Trees.{TypeTree, type_at, type_trees}
+use Rattle.const_attrs.specs.Trees.{IntegerAttr, FilledAttr, BytesAttr, AggregateAttr, SplatAttr}
 use Rattle.dialect_core.specs.declared.numbers.OpRef.{OpRef}
 use Rattle.dialect_core.specs.declared.numbers.BlockRef.{BlockRef}
 use Rattle.dialect_core.specs.declared.ops.Value.{Value}
@@ -157,6 +158,10 @@ module _ (T U : Typing) (g : Func) (operands : List Value) (edges : List Success
 
   kinds : (own : Option TypeTree) (k : Kind) → IsOfKind T g operands own edges k → IsOfKind U g operands own edges k
   kinds own (ConstantOp (IntegerAttr t v)) h = h
+  kinds own (ConstantOp (FilledAttr fill type)) h = absurd h
+  kinds own (ConstantOp (BytesAttr bytes)) h = absurd h
+  kinds own (ConstantOp (AggregateAttr elements type)) h = absurd h
+  kinds own (ConstantOp (SplatAttr element type)) h = absurd h
   kinds own (FilledOp fill) h = h
   kinds own (RowOp op) h = row op own h
 

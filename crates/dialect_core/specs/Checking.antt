@@ -3,7 +3,8 @@ use Rattle.std.specs.Prelude.{◌≡◌, ◌<◌, ℕ, Bool, true, false, List, 
 use Rattle.std.specs.List.{filter_map}
 use Rattle.std.specs.Option.{option_map, option_map_or, option_and_then}
 use Rattle.dialect_types.specs.declared.types.TypeHandle.{TypeHandle}
-use Rattle.dialect_types.specs.Trees.{TypeTree, VoidType, AttrTree, IntegerAttr, type_at, type_trees}
+use Rattle.dialect_types.specs.Trees.{TypeTree, VoidType, type_at, type_trees}
+use Rattle.const_attrs.specs.Trees.{AttrTree, IntegerAttr, FilledAttr, BytesAttr, AggregateAttr, SplatAttr}
 use Rattle.dialect_core.specs.declared.numbers.OpRef.{OpRef}
 use Rattle.dialect_core.specs.declared.numbers.BlockRef.{BlockRef}
 use Rattle.dialect_core.specs.declared.linkage.LinkageAttr.TheVariants as L
@@ -61,9 +62,13 @@ pub record Passes (types : Typing) (wanted : Option TypeTree) (v : Value) : Type
 abbrev pub PassesEach : Typing → List TypeTree → List Value → Type 0
 PassesEach types wanted vs = (place : ℕ) (v : Value) → slice_get vs place ≡ Some v → Passes types (slice_get wanted place) v
 
--- a constant of that type, an integer
+-- a constant of that type, an integer: an operation holds no other constant yet
 abbrev pub IsConstantOf : Option TypeTree → AttrTree → Type 0
 IsConstantOf own (IntegerAttr type value) = IsIntegerOf type value × (own ≡ Some type)
+IsConstantOf own (FilledAttr fill type) = ⊥
+IsConstantOf own (BytesAttr bytes) = ⊥
+IsConstantOf own (AggregateAttr elements type) = ⊥
+IsConstantOf own (SplatAttr element type) = ⊥
 
 -- the kind is one of a function's block, and the operation is as its kind is
 abbrev pub IsKindAt : ContextData → Func → OpKind → List Value → Option TypeHandle → List Successor → Type 0

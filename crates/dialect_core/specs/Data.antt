@@ -3,7 +3,8 @@ use Rattle.std.specs.Prelude.{◌≡◌, ◌<◌, ℕ, if◌then◌else◌, nat_
 use Rattle.std.specs.List.{filter_map, flat_map, find}
 use Rattle.std.specs.Option.{option_map, option_map_or, option_and_then}
 use Rattle.dialect_types.specs.declared.types.TypeHandle.{TypeHandle}
-use Rattle.dialect_types.specs.Trees.{TypeTree, AttrTree, type_at, type_trees, attr_tree, HasTypesBelow}
+use Rattle.dialect_types.specs.Trees.{TypeTree, type_at, type_trees}
+use Rattle.const_attrs.specs.Trees.{AttrTree, attr_tree, attr_data, HasTypesBelow}
 use Rattle.dialect_core.specs.declared.numbers.OpRef.{OpRef}
 use Rattle.dialect_core.specs.declared.numbers.BlockRef.{BlockRef}
 use Rattle.dialect_core.specs.declared.linkage.LinkageAttr.{LinkageAttr}
@@ -66,7 +67,7 @@ pub record DialectModule : Type 0 where
 abbrev pub kind_of : List TypeTree → OpKind → Option Kind
 kind_of ts K.Module = None
 kind_of ts K.Func = None
-kind_of ts (K.Constant value) = Some (ConstantOp (attr_tree ts value))
+kind_of ts (K.Constant value) = Some (ConstantOp (attr_tree ts (attr_data value)))
 kind_of ts (K.Filled fill) = Some (FilledOp fill)
 kind_of ts (K.Row op) = Some (RowOp op)
 
@@ -205,7 +206,7 @@ with_block_arg d b t = at_block (λ (y : DialectBlock). record y { args = y.args
 abbrev pub HasKindTypesBelow : ℕ → OpKind → Type 0
 HasKindTypesBelow n K.Module = Unit {0}
 HasKindTypesBelow n K.Func = Unit {0}
-HasKindTypesBelow n (K.Constant value) = HasTypesBelow n value
+HasKindTypesBelow n (K.Constant value) = HasTypesBelow n (attr_data value)
 HasKindTypesBelow n (K.Filled fill) = Unit {0}
 HasKindTypesBelow n (K.Row op) = Unit {0}
 

@@ -10,7 +10,7 @@ use Rattle.kinds.specs.Rules.{operand_count, target_count}
 use Rattle.kinds.specs.Table.{rule_of}
 use Rattle.kinds.specs.Fitting.{fits}
 use Rattle.kinds.specs.Typing.{given, written_for}
-use Rattle.dialect_types.specs.Trees.{IntegerAttr}
+use Rattle.const_attrs.specs.Trees.{IntegerAttr, FilledAttr, BytesAttr, AggregateAttr, SplatAttr}
 use Rattle.dialect_core.specs.declared.ops.Value.{Value}
 use Rattle.dialect_core.specs.declared.ops.Value.TheVariants.{Argument}
 use Rattle.dialect_core.specs.declared.ops.Successor.{Successor}
@@ -106,5 +106,10 @@ pub record IsFilled (operands : List Value) (own : Option TypeTree) (edges : Lis
 -- the operands, the result and the edges of an operation
 abbrev pub IsOfKind : Typing → Func → List Value → Option TypeTree → List Successor → Kind → Type 0
 IsOfKind types g operands own edges (ConstantOp (IntegerAttr type value)) = IsConstant type value operands own edges
+-- an operation holds no other constant yet
+IsOfKind types g operands own edges (ConstantOp (FilledAttr fill type)) = ⊥
+IsOfKind types g operands own edges (ConstantOp (BytesAttr bytes)) = ⊥
+IsOfKind types g operands own edges (ConstantOp (AggregateAttr elements type)) = ⊥
+IsOfKind types g operands own edges (ConstantOp (SplatAttr element type)) = ⊥
 IsOfKind types g operands own edges (FilledOp fill) = IsFilled operands own edges
 IsOfKind types g operands own edges (RowOp op) = IsRow types g op operands own edges

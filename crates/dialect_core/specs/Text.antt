@@ -5,7 +5,8 @@ use Rattle.std.specs.Map.{lookup}
 use Rattle.std.specs.Option.{option_map}
 use Rattle.std.specs.Fmt.{decimal}
 use Rattle.dialect_types.specs.Trees.{TypeTree, NamedStruct}
-use Rattle.dialect_types.specs.Text.{type_text, struct_text, attr_text, joined}
+use Rattle.dialect_types.specs.Text.{type_text, struct_text, joined}
+use Rattle.const_attrs.specs.Text.{attr_text}
 use Rattle.dialect_core.specs.declared.numbers.BlockRef.{BlockRef}
 use Rattle.dialect_core.specs.declared.linkage.LinkageAttr.{LinkageAttr}
 use Rattle.dialect_core.specs.declared.linkage.LinkageAttr.TheVariants as L

@@ -41,9 +41,13 @@ pub struct Context {
 }
 
 impl Model for Context {
+    ghost use Rattle.std.specs.Coded.{codes};
+    ghost use Rattle.const_attrs.specs.contracts.const_attr.ConstAttr as constant;
     ghost use Rattle.dialect_core.specs.ContextData.{ContextData, IsKept};
 
     ghost Value = { ContextData };
+
+    ghost coded = { Prim.hlevel (codes, constant.the_row.coded) };
 
     ghost view = { λ c. record {
       types = c.types;

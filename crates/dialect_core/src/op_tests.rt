@@ -6,7 +6,8 @@ ghost use Rattle.kinds.specs.Rules.{operand_count};
 ghost use Rattle.kinds.specs.Types.{TypeTree, IntType, VoidType, shape, result_of as returned_by};
 ghost use Rattle.kinds.specs.Held.{IsFirstClass};
 ghost use Rattle.kinds.specs.Typing.{written_for};
-ghost use Rattle.dialect_types.specs.Trees.{attr_tree, type_at, type_trees, HasTypesBelow};
+ghost use Rattle.dialect_types.specs.Trees.{type_at, type_trees};
+ghost use Rattle.const_attrs.specs.Trees.{attr_tree, attr_data, HasTypesBelow};
 ghost use Rattle.dialect_core.specs.ContextData.{IsValueWithin, IsSuccessorWithin, IsSymbol};
 ghost use Rattle.dialect_core.specs.Data.{Func, IsTyped, HasKindTypesBelow, ConstantOp, type_in};
 ghost use Rattle.dialect_core.specs.Rules.{IsFirstClassBy, IsFilled, IsOfKind, IsReturning, IsRow, returns_void, row_fits, row_result, type_nth};
@@ -17,7 +18,7 @@ use crate::numbers::OpRef;
 use crate::ops::{OpKind, Successor, Value};
 use crate::type_tests::{is_bit, is_first_class, is_fitting, same_type, shape_at};
 use crate::value_tests::{edges_fit, has_type, type_of};
-use dialect_types::attrs::ConstAttr;
+use const_attrs::const_attr::ConstAttr;
 use dialect_types::type_store::TypeStore;
 use dialect_types::types::{TypeHandle, TypeKind};
 use kinds::fitting::{TypeView, fits, is_nothing};
@@ -26,13 +27,13 @@ use kinds::rules::{Gives, Takes};
 
 /// Whether a constant is an integer of 1 to 64 bits that fits its type, and its operation has that type.
 fn constant_fits(types: &TypeStore, value: &ConstAttr, own: Option<TypeHandle>) -> bool
-    requires value { HasTypesBelow (length types.now) value.now }
+    requires value { HasTypesBelow (length types.now) (attr_data value.now) }
     requires own { IfSome own (λ t. t.0 < length types.now) }
-    ensures { IsTrue result ↔ IsConstantOf (option_map (type_at (type_trees types.now)) own) (attr_tree (type_trees types.now) value.now) }
+    ensures { IsTrue result ↔ IsConstantOf (option_map (type_at (type_trees types.now)) own) (attr_tree (type_trees types.now) (attr_data value.now)) }
 {
-    match (value, own) {
-        (ConstAttr::Integer(ty, number), Some(own)) => {
-            is_fitting(types, *ty, *number) && same_type(types, own, *ty)
+    match (value.as_integer(), own) {
+        (Some((ty, number)), Some(own)) => {
+            is_fitting(types, ty, number) && same_type(types, own, ty)
         }
         _ => false,
     }
@@ -316,10 +317,10 @@ fn constant_op_fits(
     own: Option<TypeHandle>,
     edges: &[Successor],
 ) -> bool
-    requires value { HasTypesBelow (length ctx.now.types) value.now }
+    requires value { HasTypesBelow (length ctx.now.types) (attr_data value.now) }
     requires own { IfSome own (λ t. t.0 < length ctx.now.types) }
     requires typed { IsTyped ctx.now }
-    ensures { (g : Func) → IsTrue result ↔ IsOfKind (type_in ctx.now) g operands.now (option_map (tree_at ctx.now) own) edges.now (ConstantOp (attr_tree (type_trees ctx.now.types) value.now)) }
+    ensures { (g : Func) → IsTrue result ↔ IsOfKind (type_in ctx.now) g operands.now (option_map (tree_at ctx.now) own) edges.now (ConstantOp (attr_tree (type_trees ctx.now.types) (attr_data value.now))) }
 {
     operands.is_empty() && edges.is_empty() && constant_fits(ctx.types(), value, own)
 }

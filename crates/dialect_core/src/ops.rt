@@ -4,7 +4,7 @@ ghost use Rattle.std.specs.Prelude.{◌≡◌, IfOk};
 
 use crate::linkage::LinkageAttr;
 use crate::numbers::{BlockRef, OpRef};
-use dialect_types::attrs::ConstAttr;
+use const_attrs::const_attr::ConstAttr;
 use dialect_types::identifier::Identifier;
 use dialect_types::types::TypeHandle;
 use kinds::fill::Fill;
@@ -38,7 +38,7 @@ pub enum OpKind {
     Module,
     /// `llvm.func`.
     Func,
-    /// `llvm.constant`, with its `value`.
+    /// `llvm.constant`, with its `value`: an integer, in an operation that is well-formed.
     Constant(ConstAttr),
     /// `llvm.zero`, `llvm.undef` or `llvm.poison`, of the type of its result.
     Filled(Fill),

@@ -2,7 +2,8 @@
 
 ghost use Rattle.std.specs.Prelude.{◌≡◌, ◌<◌, ◌++◌, IfSome, List, OnOk, length};
 ghost use Rattle.std.specs.Option.{option_copied, option_map};
-ghost use Rattle.dialect_types.specs.Trees.{TypeTree, attr_tree, type_at, type_trees, HasTypesBelow};
+ghost use Rattle.dialect_types.specs.Trees.{TypeTree, type_at, type_trees};
+ghost use Rattle.const_attrs.specs.Trees.{attr_tree, attr_data, HasTypesBelow};
 ghost use Rattle.dialect_types.specs.Text.{Keeps};
 ghost use Rattle.dialect_core.specs.Data.{ConstantOp, HasKindTypesBelow, kind_of, op_of, IsTypedOp};
 ghost use Rattle.dialect_core.specs.Numbering.{value_at, block_at};
@@ -12,7 +13,7 @@ ghost use Rattle.kinds.specs.declared.op.Immediates.TheVariants as sorts;
 use crate::numbering::Numbering;
 use crate::numbers::{BlockRef, OpRef};
 use crate::ops::{OpData, OpKind, Successor, Value};
-use dialect_types::attrs::ConstAttr;
+use const_attrs::const_attr::ConstAttr;
 use dialect_types::identifier::Identifier;
 use dialect_types::printing::{print_comma_before, print_number};
 use dialect_types::type_store::TypeStore;
@@ -162,8 +163,8 @@ fn print_constant_immediates(
     value: &ConstAttr,
     out: &mut Vec<u8>,
 ) -> Result<(), AllocError>
-    requires { HasTypesBelow (length types.now) value.now }
-    ensures ok { OnOk result (out.new.items ≡ out.old.items ++ immediates_text (ConstantOp (attr_tree (type_trees types.now) value.now))) }
+    requires { HasTypesBelow (length types.now) (attr_data value.now) }
+    ensures ok { OnOk result (out.new.items ≡ out.old.items ++ immediates_text (ConstantOp (attr_tree (type_trees types.now) (attr_data value.now)))) }
     ensures kept { Keeps out.old.items out.new.items }
 {
     out.extend_from_slice(b" {value = ")?;

@@ -11,3 +11,9 @@ pub mod SpellLaws
 pub mod NumberTexts
 pub mod NameTexts
 pub mod TextLaws
+pub mod ConstantLaws
+pub mod ConstantPartLaws
+pub mod ConstantListLaws
+pub mod ConstantStoreLaws
+pub mod ConstantSpellLaws
+pub mod ConstantTexts

@@ -12,9 +12,7 @@ use Rattle.dialect_parsing.specs.declared.symbol.Symbol.TheVariants as S
 use Rattle.dialect_parsing.specs.Reading.{closes, IsRead, IsNoType, AreRead, AreNoTypes, IsCounted, IsNotCounted, IsNoName}
 use Rattle.dialect_parsing.specs.Spelling.{scaled, laid, written, listed, IsOfDialect, AreOfDialect, AreFields, IsThere}
 use Rattle.dialect_parsing.proofs.ReadingLaws.{one, one_list, one_layout}
-
-not_both : (b : Bool) → b ≡ true → b ≡ false → ⊥
-not_both b h k = let both : true ≡ false = sym h ∙ k in cc
+use Rattle.dialect_parsing.proofs.PlainLaws.{not_both}
 
 -- what stands behind a vector's bracket, whether its number of elements is scaled
 pub bracket_only : (k l : VectorTypeKind) (n : ℕ) (ss mid us : List Symbol) → ss ≡ S.OpenBracket ∷ scaled k mid → ((vs : List Symbol) → mid ≡ S.Vscale ∷ vs → ⊥) → ss ≡ S.OpenBracket ∷ scaled l (S.Number n ∷ us) → (l ≡ k) × (mid ≡ S.Number n ∷ us)

@@ -11,7 +11,7 @@ use Rattle.dialect_parsing.specs.Spelling.{written, IsOfDialect}
 pub width_fine : (w : ℕ) → is_width w ≡ true → (1 ≤ w) × (w ≤ 2 ^ 23)
 width_fine w h = (grind (arith, nat_tests), grind (arith, nat_tests))
 
-width_is : (w : ℕ) → (1 ≤ w) × (w ≤ 2 ^ 23) → is_width w ≡ true
+pub width_is : (w : ℕ) → (1 ≤ w) × (w ≤ 2 ^ 23) → is_width w ≡ true
 width_is w h = let a = h.0 in let b = h.1 in grind (arith, nat_tests)
 
 pub space_fine : (n : ℕ) → is_space n ≡ true → n < 2 ^ 24
@@ -20,10 +20,10 @@ space_fine n h = grind (arith, nat_tests)
 space_is : (n : ℕ) → n < 2 ^ 24 → is_space n ≡ true
 space_is n h = grind (arith, nat_tests)
 
-not_both : (b : Bool) → b ≡ true → b ≡ false → ⊥
+pub not_both : (b : Bool) → b ≡ true → b ≡ false → ⊥
 not_both b h k = let both : true ≡ false = sym h ∙ k in cc
 
-same_first : (s u : Symbol) (ss us : List Symbol) → s ∷ ss ≡ u ∷ us → s ≡ u
+pub same_first : (s u : Symbol) (ss us : List Symbol) → s ∷ ss ≡ u ∷ us → s ≡ u
 same_first s u ss us e = cc
 
 module _ (structs : List NamedStruct) where

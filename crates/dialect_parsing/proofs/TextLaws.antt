@@ -27,21 +27,21 @@ use Rattle.dialect_parsing.proofs.NumberTexts.{IsNumeral, numeral, digits_run, d
 -- ---- a token before others
 
 -- a run says its symbol where no byte of a run stands behind it
-word : (b : ℕ) (r bs : Text) (s : Symbol) (ss : List Symbol) → symbol_of (b ∷ r) ≡ Some s → IsRun (b ∷ r) → begins_run bs ≡ false → symbols_of bs ≡ Some ss → symbols_of (b ∷ r ++ bs) ≡ Some (s ∷ ss)
+pub word : (b : ℕ) (r bs : Text) (s : Symbol) (ss : List Symbol) → symbol_of (b ∷ r) ≡ Some s → IsRun (b ∷ r) → begins_run bs ≡ false → symbols_of bs ≡ Some ss → symbols_of (b ∷ r ++ bs) ≡ Some (s ∷ ss)
 word b r bs s ss is run ends h = run_said b r bs run ends ∙ ap (λ (x : Option Symbol). with_first x (symbols_of bs)) is ∙ ap (with_first (Some s)) h
 
-sign : (b : ℕ) (bs : Text) (s : Symbol) (ss : List Symbol) → symbol_of (b ∷ []) ≡ Some s → is_run_byte b ≡ false → is_sign b ≡ true → symbols_of bs ≡ Some ss → symbols_of (b ∷ bs) ≡ Some (s ∷ ss)
+pub sign : (b : ℕ) (bs : Text) (s : Symbol) (ss : List Symbol) → symbol_of (b ∷ []) ≡ Some s → is_run_byte b ≡ false → is_sign b ≡ true → symbols_of bs ≡ Some ss → symbols_of (b ∷ bs) ≡ Some (s ∷ ss)
 sign b bs s ss is run mark h = sign_said b bs run mark ∙ ap (λ (x : Option Symbol). with_first x (symbols_of bs)) is ∙ ap (with_first (Some s)) h
 
 -- a number in decimal
-number_by : (n : ℕ) (bs : Text) (ss : List Symbol) → IsNumeral n → begins_run bs ≡ false → symbols_of bs ≡ Some ss → symbols_of (decimal n ++ bs) ≡ Some (S.Number n ∷ ss)
+pub number_by : (n : ℕ) (bs : Text) (ss : List Symbol) → IsNumeral n → begins_run bs ≡ false → symbols_of bs ≡ Some ss → symbols_of (decimal n ++ bs) ≡ Some (S.Number n ∷ ss)
 number_by n bs ss d ends h =
     let is : symbol_of (d.first ∷ d.others) ≡ Some (S.Number n) = cond-true (is_digit d.first) _ _ d.digit ∙ ap (option_map (λ (x : ℕ). S.Number x)) d.number in
     let run : IsRun (d.first ∷ d.others) = rw (digit_run d.first d.digit, digits_run d.others d.digits) refl in
     ap (λ (x : Text). symbols_of (x ++ bs)) d.text ∙ word d.first d.others bs (S.Number n) ss is run ends h
 
 -- i and the number of bits
-bits_by : (n : ℕ) (bs : Text) (ss : List Symbol) → IsNumeral n → begins_run bs ≡ false → symbols_of bs ≡ Some ss → symbols_of (105 ∷ decimal n ++ bs) ≡ Some (S.Bits n ∷ ss)
+pub bits_by : (n : ℕ) (bs : Text) (ss : List Symbol) → IsNumeral n → begins_run bs ≡ false → symbols_of bs ≡ Some ss → symbols_of (105 ∷ decimal n ++ bs) ≡ Some (S.Bits n ∷ ss)
 bits_by n bs ss d ends h =
     let is : symbol_of (105 ∷ d.first ∷ d.others) ≡ Some (S.Bits n) = ap (option_map (λ (x : ℕ). S.Bits x)) d.number in
     let run : IsRun (105 ∷ d.first ∷ d.others) = rw (digit_run d.first d.digit, digits_run d.others d.digits) refl in
@@ -68,10 +68,10 @@ func_end v bs ss h =
     let d = word 118 (codes "ariadic") (codes " = " ++ (truth_text v ++ (62 ∷ bs))) S.Variadic _ refl refl refl c in
     sign 41 (codes " variadic = " ++ (truth_text v ++ (62 ∷ bs))) S.CloseParen _ refl refl refl d
 
--- no run goes on behind a type
-after_ends : (ts : TypeTrees) (bs : Text) → begins_run bs ≡ false → begins_run (each_after (type_texts ts) ++ bs) ≡ false
-after_ends NoTypes bs h = h
-after_ends (ThenType t ts) bs h = refl
+-- no run goes on where texts follow, each after a comma
+pub after_ends : (xs : List Text) (bs : Text) → begins_run bs ≡ false → begins_run (each_after xs ++ bs) ≡ false
+after_ends [] bs h = h
+after_ends (x ∷ xs) bs h = refl
 
 regroup : (a b c d e f g bs : Text) → (a ++ b ++ c ++ d ++ e ++ f ++ g) ++ bs ≡ a ++ (b ++ (c ++ (d ++ (e ++ (f ++ (g ++ bs))))))
 regroup a b c d e f g bs = simp append_assoc
@@ -115,7 +115,7 @@ lanes_small n s h = let small = second_of (nat_le 1 n) (nat_lt n (2 ^ 32)) (is_a
 
 module _ (structs : List NamedStruct) (spelled : AreSpelled structs) where
   mutual
-    type_said : (t : TypeTree) → IsOfDialect structs t → (bs : Text) (ss : List Symbol) → begins_run bs ≡ false → symbols_of bs ≡ Some ss → symbols_of (type_text t ++ bs) ≡ Some (written t ss)
+    pub type_said : (t : TypeTree) → IsOfDialect structs t → (bs : Text) (ss : List Symbol) → begins_run bs ≡ false → symbols_of bs ≡ Some ss → symbols_of (type_text t ++ bs) ≡ Some (written t ss)
     type_said VoidType fine bs ss ends h = word 108 (codes "lvm.void") bs S.Void ss refl refl ends h
     type_said (IntType w) fine bs ss ends h =
         let least = fine.0 in
@@ -177,12 +177,12 @@ module _ (structs : List NamedStruct) (spelled : AreSpelled structs) where
     params_said NoTypes fine bs ss ends h = h
     params_said (ThenType t ts) fine bs ss ends h =
         ap symbols_of (append_assoc (type_text t) (each_after (type_texts ts)) bs)
-        ∙ type_said t fine.0 (each_after (type_texts ts) ++ bs) _ (after_ends ts bs ends) (others_said ts fine.1 bs ss ends h)
+        ∙ type_said t fine.0 (each_after (type_texts ts) ++ bs) _ (after_ends (type_texts ts) bs ends) (others_said ts fine.1 bs ss ends h)
 
     others_said : (ts : TypeTrees) → AreOfDialect structs ts → (bs : Text) (ss : List Symbol) → begins_run bs ≡ false → symbols_of bs ≡ Some ss → symbols_of (each_after (type_texts ts) ++ bs) ≡ Some (others ts ss)
     others_said NoTypes fine bs ss ends h = h
     others_said (ThenType t ts) fine bs ss ends h =
-        let more = type_said t fine.0 (each_after (type_texts ts) ++ bs) _ (after_ends ts bs ends) (others_said ts fine.1 bs ss ends h) in
+        let more = type_said t fine.0 (each_after (type_texts ts) ++ bs) _ (after_ends (type_texts ts) bs ends) (others_said ts fine.1 bs ss ends h) in
         ap symbols_of (ap (λ (x : Text). 44 ∷ 32 ∷ x) (append_assoc (type_text t) (each_after (type_texts ts)) bs))
         ∙ sign 44 (32 ∷ type_text t ++ (each_after (type_texts ts) ++ bs)) S.Comma _ refl refl refl more
 

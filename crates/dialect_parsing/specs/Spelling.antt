@@ -1,5 +1,5 @@
 -- What a type is written as, and the texts that spell it.
-use Rattle.std.specs.Prelude.{◌≡◌, ◌<◌, ◌≤◌, ◌^◌, true, List, [], ◌∷◌, ◌++◌, ℕ, Some}
+use Rattle.std.specs.Prelude.{◌≡◌, ◌<◌, ◌≤◌, ◌^◌, true, List, [], ◌∷◌, ℕ, Some}
 use Rattle.kinds.specs.declared.types.VectorTypeKind.{VectorTypeKind}
 use Rattle.kinds.specs.declared.types.VectorTypeKind.TheVariants as V
 use Rattle.kinds.specs.declared.types.StructLayout.{StructLayout}
@@ -7,8 +7,8 @@ use Rattle.kinds.specs.declared.types.StructLayout.TheVariants as L
 use Rattle.kinds.specs.Types.{depth, shape}
 use Rattle.kinds.specs.Fitting.{is_field, is_array_of, is_vector_of}
 use Rattle.kinds.specs.Structs.{struct_in}
-use Rattle.dialect_types.specs.Trees.{NamedStruct, structs_of, TypeTree, VoidType, IntType, PointerType, FloatingType, RefusedType, ArrayType, VectorType, StructType, NamedType, FunctionType, TypeTrees, NoTypes, ThenType}
-use Rattle.dialect_types.specs.declared.types.TypeKind.{TypeKind}
+pub use Rattle.dialect_types.specs.Trees.{Grows}
+use Rattle.dialect_types.specs.Trees.{NamedStruct, TypeTree, VoidType, IntType, PointerType, FloatingType, RefusedType, ArrayType, VectorType, StructType, NamedType, FunctionType, TypeTrees, NoTypes, ThenType}
 use Rattle.dialect_parsing.specs.declared.symbol.Symbol.{Symbol}
 use Rattle.dialect_parsing.specs.declared.symbol.Symbol.TheVariants as S
 use Rattle.dialect_parsing.specs.Symbols.{symbols_of}
@@ -83,9 +83,3 @@ module _ (structs : List NamedStruct) where
   -- dialect has the type, and it nests at most 1000 deep.
   abbrev pub Spells : Text → TypeTree → Type 0
   Spells bytes t = (symbols_of bytes ≡ Some (written t [])) × IsOfDialect t × (depth t ≤ 1000)
-
--- a store that has the types that it had, and perhaps more, and the same structs with names
-pub record Grows (old new : List TypeKind) : Type 0 where
-  pub more : List TypeKind
-  pub is : new ≡ old ++ more
-  pub structs : structs_of new ≡ structs_of old

@@ -36,7 +36,7 @@ pub fn expect(symbols: &mut SymbolReader, symbol: &Symbol) -> Result<(), Refused
 }
 
 /// Reads the width of an integer type.
-fn width(symbols: &mut SymbolReader) -> Result<u32, Refused>
+pub fn width(symbols: &mut SymbolReader) -> Result<u32, Refused>
     ensures ok { IfOk result (λ w. (symbols.old ≡ S.Bits w ∷ symbols.new) × (is_width w ≡ true)) }
     ensures err { IfErr result (λ _. (w : ℕ) (ss : List Symbol) → symbols.old ≡ S.Bits w ∷ ss → is_width w ≡ false) }
 {

@@ -1,6 +1,7 @@
-//! The dialect text of a type, read into a store of types.
+//! The dialect text of a type or a constant, read into a store of types.
 #![tactic(auto)]
 
+pub mod constants;
 pub mod heads;
 pub mod laws;
 pub mod making;

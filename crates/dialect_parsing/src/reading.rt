@@ -18,12 +18,12 @@ use dialect_types::types::TypeHandle;
 use std::alloc::Global;
 use support::items::Items;
 
-/// So deep a type may nest.
-const DEEPEST: u32 = 1_000;
+/// So deep a type may nest, and a constant.
+pub const DEEPEST: u32 = 1_000;
 
 /// Reads a type that nests at most so deep.
 #[cycle(read_type)]
-fn read_type(
+pub fn read_type(
     alloc: Global,
     types: &mut TypeStore,
     symbols: &mut SymbolReader,
@@ -223,7 +223,7 @@ fn list(
 }
 
 /// No symbol is to be left.
-fn at_end(symbols: &mut SymbolReader) -> Result<(), Refused>
+pub fn at_end(symbols: &mut SymbolReader) -> Result<(), Refused>
     ensures ok { IfOk result (λ _. symbols.old ≡ []) }
     ensures err { IfErr result (λ _. symbols.old ≡ [] → ⊥) }
 {

@@ -1,9 +1,10 @@
-//! What a token of a type's text says.
+//! What a token of the text of a type or a constant says.
 
+use kinds::fill::Fill;
 use kinds::types::Floating;
 use support::text::Text;
 
-/// What a token of a type's text says: a word, a sign, a number or a name.
+/// What a token of the text of a type or a constant says: a word, a sign, a number or a name.
 #[derive(PartialEq, Eq, Debug, Drop)]
 pub enum Symbol {
     /// `llvm.void`
@@ -22,6 +23,14 @@ pub enum Symbol {
     Struct,
     /// The word of a floating-point type.
     Floating(Floating),
+    /// `llvm.zero`, `llvm.undef` or `llvm.poison`.
+    Filled(Fill),
+    /// `llvm.bytes`
+    Bytes,
+    /// `llvm.aggregate`
+    Aggregate,
+    /// `llvm.splat`
+    Splat,
     /// `variadic`
     Variadic,
     /// `true` or `false`.
@@ -50,6 +59,8 @@ pub enum Symbol {
     Greater,
     /// `,`
     Comma,
+    /// `:`
+    Colon,
     /// `=`
     Equals,
     /// A number in decimal.

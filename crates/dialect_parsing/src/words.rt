@@ -1,12 +1,13 @@
-//! What a token of a type's text says.
+//! What a token of the text of a type or a constant says.
 
 ghost use Rattle.std.specs.Prelude.{◌≡◌, IfOk};
 ghost use Rattle.std.specs.Map.{lookup};
 ghost use Rattle.std.specs.Str.{bytes_eq};
-ghost use Rattle.dialect_parsing.specs.Symbols.{symbol_of, word_of, if_name, head_rows, floating_rows, inner_rows, sign_rows};
+ghost use Rattle.dialect_parsing.specs.Symbols.{symbol_of, word_of, if_name, head_rows, floating_rows, constant_rows, inner_rows, sign_rows};
 
 use crate::numbers::{is_digit, number};
 use crate::symbol::Symbol;
+use kinds::fill::Fill;
 use kinds::types::Floating;
 use std::alloc::{AllocError, Global};
 use std::str;
@@ -59,6 +60,31 @@ fn floating(text: &[u8]) -> Option<Symbol>
     None
 }
 
+/// What a word that a constant begins with says, where no type does.
+fn constant(text: &[u8]) -> Option<Symbol>
+    ensures { result ≡ lookup (bytes_eq text.now) constant_rows }
+{
+    if text == b"llvm.zero".as_slice() {
+        return Some(Symbol::Filled(Fill::Zero));
+    }
+    if text == b"llvm.undef".as_slice() {
+        return Some(Symbol::Filled(Fill::Undef));
+    }
+    if text == b"llvm.poison".as_slice() {
+        return Some(Symbol::Filled(Fill::Poison));
+    }
+    if text == b"llvm.bytes".as_slice() {
+        return Some(Symbol::Bytes);
+    }
+    if text == b"llvm.aggregate".as_slice() {
+        return Some(Symbol::Aggregate);
+    }
+    if text == b"llvm.splat".as_slice() {
+        return Some(Symbol::Splat);
+    }
+    None
+}
+
 /// What a word inside a type says.
 fn inner(text: &[u8]) -> Option<Symbol>
     ensures { result ≡ lookup (bytes_eq text.now) inner_rows }
@@ -98,6 +124,7 @@ fn sign(text: &[u8]) -> Option<Symbol>
         b"<" => Some(Symbol::Less),
         b">" => Some(Symbol::Greater),
         b"," => Some(Symbol::Comma),
+        b":" => Some(Symbol::Colon),
         b"=" => Some(Symbol::Equals),
         _ => None,
     }
@@ -107,7 +134,11 @@ fn sign(text: &[u8]) -> Option<Symbol>
 fn word(text: &[u8]) -> Option<Symbol>
     ensures { result ≡ word_of text.now }
 {
-    sign(text).or(head(text)).or(floating(text)).or(inner(text))
+    sign(text)
+        .or(head(text))
+        .or(floating(text))
+        .or(constant(text))
+        .or(inner(text))
 }
 
 /// What a name says.
@@ -120,7 +151,7 @@ fn name(alloc: Global, text: &[u8]) -> Result<Option<Symbol>, AllocError>
     }
 }
 
-/// What a token says, and nothing where it stands in no type.
+/// What a token says, and nothing where it stands in no type and no constant.
 pub fn symbol_of(alloc: Global, text: &[u8]) -> Result<Option<Symbol>, AllocError>
     ensures { IfOk result (λ s. s ≡ symbol_of text.now) }
 {

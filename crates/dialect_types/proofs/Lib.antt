@@ -1,6 +1,7 @@
 -- The lemmas that proofs cite.
 pub mod DepthLaws
 pub mod DigitLemmas
+pub mod GrowthLaws
 pub mod KeyLemmas
 pub mod LegalLaws
 pub mod NamedLaws

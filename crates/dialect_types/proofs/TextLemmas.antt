@@ -1,6 +1,5 @@
 -- Bytes that keep what stood there before, and texts with commas between them.
 use Rattle.std.proofs.Common.{◌≡◌, ◌≤◌, ◌<◌, ◌+◌, ℕ, zero, suc, Ok, Err, Bool, Option, Some, None, List, [], ◌∷◌, ◌++◌, length, slice_get, subst, get_or, take, map, refl, sym, ◌∙◌, ap, append_assoc, arith}
-use Rattle.std.specs.Fmt.{decimal}
 use Rattle.std.specs.Prelude.{IfSome, OnOk, Result, codes, is_ok, if◌then◌else◌}
 use Rattle.std.specs.List.{filter_map, flat_map, cons_option}
 use Rattle.std.specs.Option.{option_map_or}
@@ -13,10 +12,10 @@ use Rattle.dialect_types.specs.declared.types.TypeHandle.{TypeHandle}
 use Rattle.dialect_types.specs.declared.types.StructFields.{StructFields}
 use Rattle.dialect_types.specs.declared.types.TypeKind.{TypeKind}
 use Rattle.dialect_types.specs.declared.types.TypeKind.TheVariants.{Named}
-use Rattle.dialect_types.specs.Trees.{IntegerAttr, TypeTree, NamedStruct, types_at, type_at, type_trees, struct_of, structs_of, AllBelow, HasPartsBelow}
+use Rattle.dialect_types.specs.Trees.{TypeTree, NamedStruct, types_at, type_at, type_trees, struct_of, structs_of, AllBelow, HasPartsBelow}
 pub use Rattle.support.proofs.KeepLaws.{keeps_same, keeps_more, keeps_then, keeps_appended, keeps_equal, keeps_extended}
 use Rattle.dialect_types.proofs.PrintedTypes.{reach}
-use Rattle.dialect_types.specs.Text.{attr_text, body_text, struct_text, inner_type_text, comma_before, each_after, joined, truth_text, type_text, type_texts}
+use Rattle.dialect_types.specs.Text.{body_text, struct_text, comma_before, each_after, joined, truth_text, type_text, type_texts}
 
 -- ---- commas
 
@@ -85,14 +84,6 @@ pub func_printed : (r ps : List ℕ) (v : Bool) (o head result opened params end
     → end ≡ params ++ codes ") variadic = " ++ truth_text v ++ codes ">"
     → end ≡ o ++ (codes "llvm.func <" ++ r ++ codes " (" ++ ps ++ codes ") variadic = " ++ truth_text v ++ codes ">")
 func_printed r ps v o head result opened params end e1 e2 e3 e4 e5 = simp (e5, e4, e3, e2, e1, append_assoc)
-
--- the pieces of an integer constant, one after another
-pub integer_printed : {E : Type 0} (r : Result (Unit {0}) E) (t : TypeTree) (v : ℕ) (o head number colon type end : List ℕ)
-    → head ≡ o ++ codes "builtin.integer <" → number ≡ head ++ decimal v → colon ≡ number ++ codes ": " → type ≡ colon ++ inner_type_text t
-    → end ≡ (if is_ok r then type ++ codes ">" else type)
-    → OnOk r (end ≡ o ++ attr_text (IntegerAttr t v))
-integer_printed (Ok done) t v o head number colon type end e1 e2 e3 e4 e5 = simp (e5, e4, e3, e2, e1, append_assoc)
-integer_printed (Err fault) t v o head number colon type end e1 e2 e3 e4 e5 = tt
 
 -- ---- lines of structs
 

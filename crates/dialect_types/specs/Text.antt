@@ -1,4 +1,4 @@
--- The dialect text of types and constants.
+-- The dialect text of types.
 use Rattle.std.specs.Prelude.{ℕ, zero, suc, Bool, true, false, Option, Some, None, List, [], ◌∷◌, ◌++◌, codes}
 use Rattle.std.specs.Fmt.{decimal}
 use Rattle.kinds.specs.declared.types.Floating.{Floating}
@@ -8,7 +8,7 @@ use Rattle.kinds.specs.declared.types.VectorTypeKind.TheVariants as V
 use Rattle.kinds.specs.declared.types.StructLayout.{StructLayout}
 use Rattle.kinds.specs.declared.types.StructLayout.TheVariants as L
 pub use Rattle.support.specs.Appended.{Keeps}
-use Rattle.dialect_types.specs.Trees.{TypeTree, VoidType, IntType, PointerType, FloatingType, RefusedType, ArrayType, VectorType, StructType, NamedType, FunctionType, TypeTrees, NoTypes, ThenType, AttrTree, IntegerAttr, StructBody, NamedStruct}
+use Rattle.dialect_types.specs.Trees.{TypeTree, VoidType, IntType, PointerType, FloatingType, RefusedType, ArrayType, VectorType, StructType, NamedType, FunctionType, TypeTrees, NoTypes, ThenType, StructBody, NamedStruct}
 
 -- the word of a truth value
 abbrev pub truth_text : Bool → List ℕ
@@ -87,14 +87,3 @@ body_text (Some b) = body_head b.layout ++ joined (type_texts b.fields) ++ codes
 -- the line of a struct in a module
 abbrev pub struct_text : NamedStruct → List ℕ
 struct_text s = codes "  llvm.struct @" ++ s.name ++ codes " = " ++ body_text s.body ++ codes "\n"
-
--- ---- constants
-
--- the type of an integer constant inside its text: `iW` for an integer type
-abbrev pub inner_type_text : TypeTree → List ℕ
-inner_type_text (IntType w) = codes "i" ++ decimal w
-inner_type_text t = type_text t
-
--- the text of a constant
-abbrev pub attr_text : AttrTree → List ℕ
-attr_text (IntegerAttr type value) = codes "builtin.integer <" ++ decimal value ++ codes ": " ++ inner_type_text type ++ codes ">"

@@ -1,4 +1,4 @@
--- Types and constants as trees, and the tree that a number of a store stands for.
+-- Types as trees, and the tree that a number of a store stands for.
 use Rattle.std.specs.Prelude.{◌≡◌, ◌<◌, ◌⊎◌, ℕ, Bool, true, false, List, [], ◌∷◌, ◌++◌, All, IfSome, length, slice_get, slice_index_or, Option, Some, None}
 use Rattle.std.specs.List.{filter_map}
 use Rattle.std.specs.Option.{option_map}
@@ -13,12 +13,6 @@ use Rattle.dialect_types.specs.declared.types.TypeHandle.{TypeHandle}
 use Rattle.dialect_types.specs.declared.types.StructFields.{StructFields}
 use Rattle.dialect_types.specs.declared.types.TypeKind.{TypeKind}
 use Rattle.dialect_types.specs.declared.types.TypeKind.TheVariants.{Integer, Pointer, Floating, Array, Vector, Struct, Named, Func, Void}
-use Rattle.dialect_types.specs.declared.attrs.ConstAttr.{ConstAttr}
-use Rattle.dialect_types.specs.declared.attrs.ConstAttr.TheVariants as A
-
--- a constant, a line for each kind
-pub data AttrTree : Type 0 where
-  IntegerAttr : (type : TypeTree) (value : ℕ) → AttrTree
 
 -- the trees of a list of kinds, each by the trees of the earlier ones, which are `done` to begin with
 module _ {K T : Type 0} (tree_of : List T → K → T) where
@@ -49,14 +43,6 @@ type_tree ts Void = VoidType
 -- the trees of a store's numbers
 abbrev pub type_trees : List TypeKind → List TypeTree
 type_trees ks = trees_after type_tree [] ks
-
--- the tree of a constant, where the trees of the types are ts
-abbrev pub attr_tree : List TypeTree → ConstAttr → AttrTree
-attr_tree ts (A.Integer t value) = IntegerAttr (type_at ts t) value
-
--- the types of a constant are numbers below n
-abbrev pub HasTypesBelow : ℕ → ConstAttr → Type 0
-HasTypesBelow n (A.Integer t value) = t.0 < n
 
 -- each number is below n
 abbrev pub AllBelow : ℕ → List TypeHandle → Type 0
@@ -153,3 +139,9 @@ pub record IsStored (ks : List TypeKind) : Type 0 where
 abbrev pub IsDistinctAsTrees : List TypeKind → Type 0
 IsDistinctAsTrees ks =
     (a b : TypeHandle) → a.0 < length ks → b.0 < length ks → type_at (type_trees ks) a ≡ type_at (type_trees ks) b → a.0 ≡ b.0
+
+-- a store that has the types that it had, and perhaps more, and the same structs with names
+pub record Grows (old new : List TypeKind) : Type 0 where
+  pub more : List TypeKind
+  pub is : new ≡ old ++ more
+  pub structs : structs_of new ≡ structs_of old

@@ -1,8 +1,7 @@
-//! Types and constants of the dialect, and the legaliser of names.
+//! Types of the dialect, and the legaliser of names.
 #![tactic(auto)]
 
 pub mod asking;
-pub mod attrs;
 pub mod identifier;
 pub mod legaliser;
 pub mod printing;

@@ -1,14 +1,13 @@
-//! The dialect text of types and constants.
+//! The dialect text of types.
 
 ghost use Rattle.std.specs.Prelude.{◌≡◌, ◌<◌, ◌≤◌, ◌+◌, ◌%◌, [], ◌++◌, codes, length, slice_get, Some, IfSome, OnErr, OnOk};
 ghost use Rattle.std.specs.List.{flat_map};
 ghost use Rattle.std.specs.Option.{option_map, option_map_or};
 ghost use Rattle.std.specs.Fmt.{decimal};
 ghost use Rattle.dialect_types.specs.declared.types.TypeKind.{TypeKind};
-ghost use Rattle.dialect_types.specs.Trees.{type_at, types_at, type_trees, struct_of, structs_of, fields_of, attr_tree, AllBelow, HasTypesBelow, IntegerAttr, StructType, FunctionType};
-ghost use Rattle.dialect_types.specs.Text.{Keeps, comma_before, counted_text, floating_text, inner_type_text, joined, struct_head, type_text, type_texts, attr_text, body_head, body_text, struct_text, truth_text, vector_head};
+ghost use Rattle.dialect_types.specs.Trees.{type_at, types_at, type_trees, struct_of, structs_of, fields_of, AllBelow, StructType, FunctionType};
+ghost use Rattle.dialect_types.specs.Text.{Keeps, comma_before, counted_text, floating_text, joined, struct_head, type_text, type_texts, body_head, body_text, struct_text, truth_text, vector_head};
 
-use crate::attrs::ConstAttr;
 use crate::identifier::Identifier;
 use crate::type_store::TypeStore;
 use crate::types::{StructFields, TypeHandle, TypeKind};
@@ -385,63 +384,6 @@ impl TypeStore {
                 self.append_types(fields.types.as_slice(), out)?;
                 out.extend_from_slice(b"}")
             }
-        }
-    }
-
-    /// Appends the type of an integer constant as it stands inside the constant's text.
-    fn append_inner_type(&self, ty: TypeHandle, out: &mut Vec<u8>) -> Result<(), AllocError>
-        requires { ty.0 < length self.now }
-        ensures ok { OnOk result (out.new.items ≡ out.old.items ++ inner_type_text (type_at (type_trees self.now) ty)) }
-        ensures kept { Keeps out.old.items out.new.items }
-    {
-        match self.kind(ty) {
-            TypeKind::Integer(width) => {
-                out.extend_from_slice(b"i")?;
-                print_number(u64::from(*width), out)
-            }
-            _ => self.append_type(ty, out),
-        }
-    }
-}
-
-/// Appends the text of an integer constant.
-fn append_integer(
-    types: &TypeStore,
-    ty: TypeHandle,
-    value: u64,
-    out: &mut Vec<u8>,
-) -> Result<(), AllocError>
-    requires { ty.0 < length types.now }
-    ensures ok { OnOk result (out.new.items ≡ out.old.items ++ attr_text (IntegerAttr (type_at (type_trees types.now) ty) value)) }
-    ensures kept { Keeps out.old.items out.new.items }
-{
-    out.extend_from_slice(b"builtin.integer <")?;
-    print_number(value, out)?;
-    out.extend_from_slice(b": ")?;
-    types.append_inner_type(ty, out)?;
-    out.extend_from_slice(b">")
-}
-
-impl ConstAttr {
-    /// Appends the text of a constant. Want of memory leaves `out` as it was.
-    pub fn print(&self, types: &TypeStore, out: &mut Vec<u8>) -> Result<(), AllocError>
-        requires { HasTypesBelow (length types.now) self.now }
-        ensures ok { OnOk result (out.new.items ≡ out.old.items ++ attr_text (attr_tree (type_trees types.now) self.now)) }
-        ensures err { OnErr result (out.new.items ≡ out.old.items) }
-    {
-        let len = out.len();
-        let printed = self.append(types, out);
-        undo_failed(printed, out, len)
-    }
-
-    /// Appends the text of a constant, or a front of it where memory is wanting.
-    pub fn append(&self, types: &TypeStore, out: &mut Vec<u8>) -> Result<(), AllocError>
-        requires { HasTypesBelow (length types.now) self.now }
-        ensures ok { OnOk result (out.new.items ≡ out.old.items ++ attr_text (attr_tree (type_trees types.now) self.now)) }
-        ensures kept { Keeps out.old.items out.new.items }
-    {
-        match self {
-            ConstAttr::Integer(ty, value) => append_integer(types, *ty, *value, out),
         }
     }
 }

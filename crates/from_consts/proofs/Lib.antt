@@ -6,3 +6,4 @@ pub mod RefusalLaws
 pub mod KindLaws
 pub mod StepLaws
 pub mod CheckedLaws
+pub mod ConstantLaws

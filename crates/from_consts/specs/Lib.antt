@@ -6,3 +6,4 @@ pub mod Names
 pub mod Given
 pub mod Refusals
 pub mod Steps
+pub mod Constants

@@ -20,9 +20,12 @@ use Rattle.kinds.specs.Held.{width_in, IsFirstClass, IsHeldResult}
 use Rattle.kinds.specs.Types.{params_of}
 use Rattle.kinds.specs.Structs.{Struct}
 use Rattle.dialect_types.specs.declared.types.TypeHandle.{TypeHandle}
-use Rattle.dialect_types.specs.declared.attrs.ConstAttr.TheVariants as A
+use Rattle.const_attrs.specs.declared.const_attr.ConstAttr.TheVariants as A
 use Rattle.dialect_types.specs.Trees as trees
-use Rattle.dialect_types.specs.Trees.{TypeTree, IntegerAttr}
+use Rattle.dialect_types.specs.declared.types.TypeHandle.{TypeHandle}
+use Rattle.dialect_types.specs.Trees.{TypeTree}
+use Rattle.const_attrs.specs.Trees.{Attr, IntegerAttr, attr_tree, HasTypesBelow}
+use Rattle.const_attrs.proofs.DataLaws.{integer_data}
 use Rattle.dialect_core.specs.declared.ops.OpKind.TheVariants as K
 use Rattle.dialect_core.specs.Data.{ConstantOp, FilledOp}
 use Rattle.from_llvm_ir.specs.Building.{new_op}
@@ -46,8 +49,8 @@ const_fits m c t v at h =
 int_making : (w v : ℕ) (ty : TypeHandle) → IsMaking (IntConst w v) ty (K.Constant (A.Integer ty v))
 int_making w v ty = record {
   plain = refl;
-  types = λ n below. below;
-  makes = λ ts is. (ConstantOp (IntegerAttr (trees.type_at ts ty) v), refl, λ n. ap (λ (x : TypeTree). new_op n None (ConstantOp (IntegerAttr x v)) [] [] (Some x)) is);
+  types = λ n below. subst (HasTypesBelow n) (sym (integer_data ty v)) below;
+  makes = λ ts is. (ConstantOp (IntegerAttr (trees.type_at ts ty) v), ap (λ (d : Attr TypeHandle). Some (ConstantOp (attr_tree ts d))) (integer_data ty v), λ n. ap (λ (x : TypeTree). new_op n None (ConstantOp (IntegerAttr x v)) [] [] (Some x)) is);
 }
 
 filled_making : (fill : Fill) (t : TypeTree) (ty : TypeHandle) → IsMaking (FilledConst fill t) ty (K.Filled fill)

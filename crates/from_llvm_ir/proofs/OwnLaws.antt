@@ -9,8 +9,9 @@ use Rattle.dialect_types.proofs.TreeLemmas.{push_cases}
 use Rattle.support.proofs.ListLaws.{all_from}
 use Rattle.dialect_types.specs.declared.types.TypeHandle.{TypeHandle}
 use Rattle.dialect_types.specs.declared.types.TypeKind.{TypeKind}
-use Rattle.dialect_types.specs.declared.attrs.ConstAttr.TheVariants as A
-use Rattle.dialect_types.specs.Trees.{TypeTree, IntegerAttr, type_at, type_trees}
+use Rattle.dialect_types.specs.Trees.{TypeTree, type_at, type_trees}
+use Rattle.const_attrs.specs.Trees.{AttrTree, attr_data}
+use Rattle.const_attrs.proofs.KeptLaws.{tree_same}
 use Rattle.dialect_core.specs.declared.numbers.OpRef.{OpRef}
 use Rattle.dialect_core.specs.declared.numbers.BlockRef.{BlockRef}
 use Rattle.dialect_core.specs.declared.ops.Symbol.{Symbol}
@@ -104,7 +105,7 @@ module _ (ts us : List TypeTree) (c : ContextData) (types : List TypeKind) (m : 
   kind_same : (k : OpKind) → HasKindTypesBelow (length c.types) k → kind_of us k ≡ kind_of ts k
   kind_same K.Module h = refl
   kind_same K.Func h = refl
-  kind_same (K.Constant (A.Integer t v)) h = ap (λ (x : TypeTree). Some (ConstantOp (IntegerAttr x v))) (same t h)
+  kind_same (K.Constant value) h = ap (λ (x : AttrTree). Some (ConstantOp x)) (tree_same ts us (length c.types) same (attr_data value) h)
   kind_same (K.Filled fill) h = refl
   kind_same (K.Row op) h = refl
 

@@ -10,7 +10,8 @@ use Rattle.llvm_core.specs.declared.code.LLVMValue.TheVariants as V
 use Rattle.llvm_core.specs.Data.{ConstTree, IntConst, FilledConst, PlaceholderConst, Placed, targets, phi_entries, placed_in}
 use Rattle.llvm_core.specs.Form.{is_phi}
 use Rattle.dialect_types.specs.Legalised.{Named, Gave, IsLegalised}
-use Rattle.dialect_types.specs.Trees.{IntegerAttr, IntType}
+use Rattle.dialect_types.specs.Trees.{IntType}
+use Rattle.const_attrs.specs.Trees.{IntegerAttr}
 use Rattle.dialect_types.specs.declared.types.TypeHandle.{TypeHandle}
 use Rattle.dialect_core.specs.declared.numbers.OpRef.{OpRef}
 use Rattle.dialect_core.specs.declared.numbers.BlockRef.{BlockRef}

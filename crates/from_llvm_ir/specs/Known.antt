@@ -9,7 +9,8 @@ use Rattle.llvm_core.specs.Data.{ConstTree, IntConst, FilledConst, PlaceholderCo
 use Rattle.llvm_core.specs.Form.{IsFormConst, IsShortConst}
 use Rattle.kinds.specs.Held.{IsHeld}
 use Rattle.dialect_types.specs.declared.types.TypeHandle.{TypeHandle}
-use Rattle.dialect_types.specs.Trees.{TypeTree, IntegerAttr, IntType, type_at}
+use Rattle.dialect_types.specs.Trees.{TypeTree, IntType, type_at}
+use Rattle.const_attrs.specs.Trees.{IntegerAttr}
 use Rattle.dialect_types.specs.Legalised.{Named}
 use Rattle.dialect_core.specs.declared.ops.Value.{Value}
 use Rattle.dialect_core.specs.declared.ops.Value.TheVariants as V

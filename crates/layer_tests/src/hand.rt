@@ -7,12 +7,12 @@ ghost use Rattle.dialect_core.specs.declared.ops.OpKind.TheVariants as kinds;
 ghost use Rattle.dialect_core.specs.ContextData.{empty_context, holder_kind, is_plain, HoldsMore, IsValueWithin, IsSuccessorWithin};
 ghost use Rattle.dialect_core.specs.Data.{HasKindTypesBelow, IsTyped};
 
+use const_attrs::const_attr::ConstAttr;
 use dialect_core::context::Context;
 use dialect_core::linkage::LinkageAttr;
 use dialect_core::numbers::{BlockRef, ModuleOp, OpRef};
 use dialect_core::ops::{OpKind, Successor, Value};
 use dialect_core::steps::Steps;
-use dialect_types::attrs::ConstAttr;
 use dialect_types::identifier::Identifier;
 use dialect_types::legaliser::Legaliser;
 use dialect_types::types::{TypeHandle, TypeKind};

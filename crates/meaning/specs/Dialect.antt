@@ -2,7 +2,8 @@
 use Rattle.std.specs.Prelude.{ℕ, zero, suc, Bool, ◌&&◌, if◌then◌else◌, List, [], ◌∷◌, Option, Some, None, map, option_map, length, nat_eq, nat_lt}
 use Rattle.std.specs.Option.{option_map_or}
 use Rattle.std.specs.List.{flat_map, filter_map, position_from, find}
-use Rattle.dialect_types.specs.Trees.{TypeTree, VoidType, AttrTree, IntegerAttr}
+use Rattle.dialect_types.specs.Trees.{TypeTree, VoidType}
+use Rattle.const_attrs.specs.Trees.{AttrTree, IntegerAttr, FilledAttr, BytesAttr, AggregateAttr, SplatAttr}
 use Rattle.dialect_core.specs.declared.numbers.BlockRef.{BlockRef}
 use Rattle.dialect_core.specs.declared.ops.Value.{Value}
 use Rattle.dialect_core.specs.declared.ops.Value.TheVariants.{Result, Argument}
@@ -22,9 +23,13 @@ use Rattle.meaning.specs.Setting.{Setting, TellsNothing}
 use Rattle.meaning.specs.Code.{Code, Entry, Body, Symbol, FunctionSymbol, Linkage, External, AvailableExternally, LinkOnceAny, LinkOnceODR, WeakAny, WeakODR, Appending, Internal, Private, ExternalWeak, Common, Other}
 pub use Rattle.dialect_core.specs.Text.{same_value}
 
--- the term of a constant, a line for each kind
+-- The term of a constant, a line for each kind. Those of lists are not said yet: an operation that is well-formed holds none.
 abbrev pub attr_term : Setting → AttrTree → Term
 attr_term setting (IntegerAttr ty n) = Int (width_in ty) n
+attr_term setting (FilledAttr fill ty) = filled_term fill ty
+attr_term setting (BytesAttr bytes) = Unset
+attr_term setting (AggregateAttr elements ty) = Unset
+attr_term setting (SplatAttr element ty) = Unset
 
 -- ---- types of operands
 

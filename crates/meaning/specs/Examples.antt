@@ -6,6 +6,7 @@ use Rattle.kinds.specs.declared.op.Op.{Op}
 use Rattle.kinds.specs.declared.op.Op.TheVariants as O
 use Rattle.kinds.specs.declared.op.OverflowFlags.{OverflowFlags}
 use Rattle.dialect_types.specs.Trees as T
+use Rattle.const_attrs.specs.Trees as A
 use Rattle.dialect_core.specs.declared.ops.Value.TheVariants as V
 use Rattle.dialect_core.specs.declared.linkage.LinkageAttr.TheVariants.{ExternalLinkage}
 use Rattle.dialect_core.specs.Data as D
@@ -81,7 +82,7 @@ answer_func = record {
     label = Some (codes "entry");
     args = [];
     ops =
-        (record { number = 2; name = None; kind = D.ConstantOp (T.IntegerAttr (T.IntType 32) 7); operands = []; successors = []; result = Some (T.IntType 32) })
+        (record { number = 2; name = None; kind = D.ConstantOp (A.IntegerAttr (T.IntType 32) 7); operands = []; successors = []; result = Some (T.IntType 32) })
         ∷ (record { number = 3; name = None; kind = ret_op; operands = V.Result (record { 0 = 2 }) ∷ []; successors = []; result = None })
         ∷ [];
   }) ∷ [];
@@ -151,7 +152,7 @@ sums_func = record {
     label = Some (codes "entry");
     args = T.IntType 32 ∷ T.IntType 32 ∷ [];
     ops =
-        (record { number = 2; name = None; kind = D.ConstantOp (T.IntegerAttr (T.IntType 32) 5); operands = []; successors = []; result = Some (T.IntType 32) })
+        (record { number = 2; name = None; kind = D.ConstantOp (A.IntegerAttr (T.IntType 32) 5); operands = []; successors = []; result = Some (T.IntType 32) })
         ∷ (record { number = 3; name = Some (codes "s"); kind = add_op no_signed; operands = V.Argument (record { 0 = 1 }) 0 ∷ V.Argument (record { 0 = 1 }) 1 ∷ []; successors = []; result = Some (T.IntType 32) })
         ∷ (record { number = 4; name = Some (codes "t"); kind = add_op wraps; operands = V.Result (record { 0 = 3 }) ∷ V.Result (record { 0 = 2 }) ∷ []; successors = []; result = Some (T.IntType 32) })
         ∷ (record { number = 5; name = None; kind = ret_op; operands = V.Result (record { 0 = 4 }) ∷ []; successors = []; result = None })

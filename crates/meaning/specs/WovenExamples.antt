@@ -4,6 +4,7 @@ use Rattle.std.specs.Prelude.{false, [], ◌∷◌, Some, None, codes}
 use Rattle.llvm_core.specs.Data as L
 use Rattle.llvm_core.specs.Data.{VoidType, IntType, FunctionType, NoTypes, ThenType, IntConst, Phi, Constant, Parameter, Result}
 use Rattle.dialect_types.specs.Trees as T
+use Rattle.const_attrs.specs.Trees as A
 use Rattle.dialect_core.specs.declared.ops.Value.TheVariants as V
 use Rattle.dialect_core.specs.declared.linkage.LinkageAttr.TheVariants.{ExternalLinkage}
 use Rattle.dialect_core.specs.Data as D
@@ -75,7 +76,7 @@ late_func = record {
         label = Some (codes "loop");
         args = T.IntType 32 ∷ [];
         ops =
-            (record { number = 3; name = None; kind = D.ConstantOp (T.IntegerAttr (T.IntType 32) 1); operands = []; successors = []; result = Some (T.IntType 32) })
+            (record { number = 3; name = None; kind = D.ConstantOp (A.IntegerAttr (T.IntType 32) 1); operands = []; successors = []; result = Some (T.IntType 32) })
             ∷ (record { number = 4; name = Some (codes "y"); kind = add_op wraps; operands = V.Argument (record { 0 = 2 }) 0 ∷ V.Result (record { 0 = 3 }) ∷ []; successors = []; result = Some (T.IntType 32) })
             ∷ (record {
               number = 5;
@@ -125,7 +126,7 @@ mixed_func = record {
     args = T.IntType 32 ∷ T.IntType 32 ∷ [];
     ops =
         (record { number = 3; name = Some (codes "s"); kind = add_op no_signed; operands = V.Argument (record { 0 = 1 }) 0 ∷ V.Argument (record { 0 = 1 }) 1 ∷ []; successors = []; result = Some (T.IntType 32) })
-        ∷ (record { number = 2; name = None; kind = D.ConstantOp (T.IntegerAttr (T.IntType 32) 5); operands = []; successors = []; result = Some (T.IntType 32) })
+        ∷ (record { number = 2; name = None; kind = D.ConstantOp (A.IntegerAttr (T.IntType 32) 5); operands = []; successors = []; result = Some (T.IntType 32) })
         ∷ (record { number = 4; name = Some (codes "t"); kind = add_op wraps; operands = V.Result (record { 0 = 3 }) ∷ V.Result (record { 0 = 2 }) ∷ []; successors = []; result = Some (T.IntType 32) })
         ∷ (record { number = 5; name = None; kind = ret_op; operands = V.Result (record { 0 = 4 }) ∷ []; successors = []; result = None })
         ∷ [];

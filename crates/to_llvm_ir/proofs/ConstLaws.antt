@@ -17,7 +17,8 @@ use Rattle.llvm_core.specs.Data as L
 use Rattle.llvm_core.specs.Data.{ConstTree, IntConst, FilledConst, filled_const, Operand}
 use Rattle.llvm_core.specs.Form as F
 use Rattle.llvm_core.specs.Parts.{IsIntAt}
-use Rattle.dialect_types.specs.Trees.{TypeTree, VoidType, IntType, PointerType, FloatingType, RefusedType, ArrayType, VectorType, StructType, NamedType, FunctionType, AttrTree, IntegerAttr}
+use Rattle.dialect_types.specs.Trees.{TypeTree, VoidType, IntType, PointerType, FloatingType, RefusedType, ArrayType, VectorType, StructType, NamedType, FunctionType}
+use Rattle.const_attrs.specs.Trees.{IntegerAttr, FilledAttr, BytesAttr, AggregateAttr, SplatAttr}
 use Rattle.dialect_core.specs.declared.ops.Value.{Value}
 use Rattle.dialect_core.specs.declared.ops.Successor.{Successor}
 use Rattle.dialect_core.specs.Data.{DialectOp, Func, Kind, ConstantOp, FilledOp, RowOp, value_type}
@@ -55,12 +56,20 @@ other_is x own (RowOp op) e = refl
 -- it takes nothing and leads nowhere
 pub constant_takes : (T : Typing) (g : Func) (vs : List Value) (own : Option TypeTree) (ss : List Successor) (k : Kind) → is_constant_kind k ≡ true → IsOfKind T g vs own ss k → (vs ≡ []) × (ss ≡ [])
 constant_takes T g vs own ss (ConstantOp (IntegerAttr t v)) e h = (h.bare, h.ends_here)
+constant_takes T g vs own ss (ConstantOp (FilledAttr fill type)) e h = absurd h
+constant_takes T g vs own ss (ConstantOp (BytesAttr bytes)) e h = absurd h
+constant_takes T g vs own ss (ConstantOp (AggregateAttr elements type)) e h = absurd h
+constant_takes T g vs own ss (ConstantOp (SplatAttr element type)) e h = absurd h
 constant_takes T g vs own ss (FilledOp fill) e h = (h.bare, h.ends_here)
 constant_takes T g vs own ss (RowOp op) e h = absurd (let never : false ≡ true = e in cc)
 
 -- it has a result
 pub constant_result : (T : Typing) (g : Func) (vs : List Value) (own : Option TypeTree) (ss : List Successor) (k : Kind) → is_constant_kind k ≡ true → IsOfKind T g vs own ss k → (t : TypeTree) × (own ≡ Some t)
 constant_result T g vs own ss (ConstantOp (IntegerAttr t v)) e h = (t, h.result)
+constant_result T g vs own ss (ConstantOp (FilledAttr fill type)) e h = absurd h
+constant_result T g vs own ss (ConstantOp (BytesAttr bytes)) e h = absurd h
+constant_result T g vs own ss (ConstantOp (AggregateAttr elements type)) e h = absurd h
+constant_result T g vs own ss (ConstantOp (SplatAttr element type)) e h = absurd h
 constant_result T g vs own ss (FilledOp fill) e h = (h.type, h.result)
 constant_result T g vs own ss (RowOp op) e h = absurd (let never : false ≡ true = e in cc)
 
@@ -132,6 +141,10 @@ pub constant_typed : (T : Typing) (g : Func) (vs : List Value) (own : Option Typ
 constant_typed T g vs own ss t (ConstantOp (IntegerAttr u m)) e type h =
     let i = h.integer in
     ap IntType (ap width_in i.1) ∙ sym i.1 ∙ same_Some u t (sym h.result ∙ type)
+constant_typed T g vs own ss t (ConstantOp (FilledAttr fill type_)) e type h = absurd h
+constant_typed T g vs own ss t (ConstantOp (BytesAttr bytes)) e type h = absurd h
+constant_typed T g vs own ss t (ConstantOp (AggregateAttr elements type_)) e type h = absurd h
+constant_typed T g vs own ss t (ConstantOp (SplatAttr element type_)) e type h = absurd h
 constant_typed T g vs own ss t (FilledOp fill) e type h = filled_type fill (option_type own) ∙ ap option_type type
 constant_typed T g vs own ss t (RowOp op) e type h = absurd (let never : false ≡ true = e in cc)
 
@@ -140,6 +153,10 @@ pub constant_form : (T : Typing) (g : Func) (vs : List Value) (own : Option Type
 constant_form T g vs own ss (ConstantOp (IntegerAttr u m)) e h held =
     let i = h.integer in
     subst (λ (w : ℕ). (1 ≤ w) × IsIntAt w m) (sym (ap width_in i.1)) (i.2.0, kept_int i.0 m i.2.1 i.3)
+constant_form T g vs own ss (ConstantOp (FilledAttr fill type)) e h held = absurd h
+constant_form T g vs own ss (ConstantOp (BytesAttr bytes)) e h held = absurd h
+constant_form T g vs own ss (ConstantOp (AggregateAttr elements type)) e h held = absurd h
+constant_form T g vs own ss (ConstantOp (SplatAttr element type)) e h held = absurd h
 constant_form T g vs own ss (FilledOp fill) e h held =
     let type = h.result in
     subst (λ (o : Option TypeTree). F.IsFormConst (filled_const fill (option_type o))) (sym type) (filled_form fill h.type (subst (λ (o : Option TypeTree). IfSome o IsHeld) type held))
@@ -148,6 +165,10 @@ constant_form T g vs own ss (RowOp op) e h held = absurd (let never : false ≡ 
 -- and short
 pub constant_short : (T : Typing) (g : Func) (vs : List Value) (own : Option TypeTree) (ss : List Successor) (k : Kind) → is_constant_kind k ≡ true → IsOfKind T g vs own ss k → IfSome own (IsShortKind k) → F.IsShortConst (constant_of own k)
 constant_short T g vs own ss (ConstantOp (IntegerAttr u m)) e h short = let i = h.integer in subst (λ (w : ℕ). w ≤ 64) (sym (ap width_in i.1)) i.2.1
+constant_short T g vs own ss (ConstantOp (FilledAttr fill type)) e h short = absurd h
+constant_short T g vs own ss (ConstantOp (BytesAttr bytes)) e h short = absurd h
+constant_short T g vs own ss (ConstantOp (AggregateAttr elements type)) e h short = absurd h
+constant_short T g vs own ss (ConstantOp (SplatAttr element type)) e h short = absurd h
 constant_short T g vs own ss (FilledOp fill) e h short =
     let type = h.result in
     subst (λ (o : Option TypeTree). F.IsShortConst (filled_const fill (option_type o))) (sym type) (filled_short fill h.type (subst (λ (o : Option TypeTree). IfSome o (IsShortKind (FilledOp fill))) type short))
@@ -156,6 +177,10 @@ constant_short T g vs own ss (RowOp op) e h short = absurd (let never : false �
 -- the operation holds the term of it
 pub constant_holds : (setting back : Setting) (g : Func) (o : DialectOp) (k : Kind) → is_constant_kind k ≡ true → dialect.action setting g o k ≡ Holds (rename same_places (llvm.const_term back (constant_of o.result k)))
 constant_holds setting back g o (ConstantOp (IntegerAttr t m)) e = refl
+constant_holds setting back g o (ConstantOp (FilledAttr fill t)) e = ap Holds (sym (ap (rename same_places) (filled_same back fill t) ∙ filled_under same_places fill t ∙ ap (filled_term fill) (type_stays t)))
+constant_holds setting back g o (ConstantOp (BytesAttr bytes)) e = refl
+constant_holds setting back g o (ConstantOp (AggregateAttr elements t)) e = refl
+constant_holds setting back g o (ConstantOp (SplatAttr element t)) e = refl
 constant_holds setting back g o (FilledOp fill) e =
     let t = option_type o.result in
     ap Holds (sym (ap (rename same_places) (filled_same back fill t) ∙ filled_under same_places fill t ∙ ap (filled_term fill) (type_stays t)))

@@ -20,9 +20,11 @@ use Rattle.llvm_core.specs.Parts.{IsIntAt, const_type, one_form}
 use Rattle.llvm_core.specs.Data.{ConstTree, IntConst, FilledConst, filled_const, const_tree, trees_of}
 use Rattle.llvm_core.proofs.WholeTypes.{shape_there}
 use Rattle.dialect_types.specs.declared.types.TypeHandle.{TypeHandle}
-use Rattle.dialect_types.specs.declared.attrs.ConstAttr.{ConstAttr}
-use Rattle.dialect_types.specs.declared.attrs.ConstAttr.TheVariants as A
-use Rattle.dialect_types.specs.Trees.{TypeTree, IntegerAttr, type_at, type_trees, attr_tree}
+use Rattle.const_attrs.specs.declared.const_attr.ConstAttr.{ConstAttr}
+use Rattle.const_attrs.specs.Trees.{Attr, IntegerAttr, attr_tree, attr_data, HasTypesBelow}
+use Rattle.const_attrs.proofs.KeptLaws.{integer_tree}
+use Rattle.dialect_core.proofs.RuleLemmas.{constant_integer as held_integer}
+use Rattle.dialect_types.specs.Trees.{TypeTree, type_at, type_trees}
 use Rattle.dialect_core.specs.declared.numbers.OpRef.{OpRef}
 use Rattle.dialect_core.specs.declared.ops.Value.{Value}
 use Rattle.dialect_core.specs.declared.ops.Successor.{Successor}
@@ -52,25 +54,34 @@ pub record ConstantParts (o : DialectOp) (type : TypeTree) (value : ℕ) : Type 
   pub operands : o.operands ≡ []
   pub successors : o.successors ≡ []
 
-pub constant_parts : (c : ContextData) (op : OpRef) (s : Spot) (value : ConstAttr) (ty : TypeHandle) (n : ℕ) → IsSpot c op s → kind_at c.ops op ≡ Some (K.Constant value) → value ≡ A.Integer ty n → ConstantParts s.op (type_at (type_trees c.types) ty) n
+pub constant_parts : (c : ContextData) (op : OpRef) (s : Spot) (value : ConstAttr) (ty : TypeHandle) (n : ℕ) → IsSpot c op s → kind_at c.ops op ≡ Some (K.Constant value) → attr_data value ≡ IntegerAttr ty n → ConstantParts s.op (type_at (type_trees c.types) ty) n
 constant_parts c op s value ty n h at value_is =
     let ts = type_trees c.types in
-    let k = spot_kind c op s (K.Constant value) (ConstantOp (IntegerAttr (type_at ts ty) n)) h at (ap (λ (v : ConstAttr). Some (ConstantOp (attr_tree ts v))) value_is) in
+    let k = spot_kind c op s (K.Constant value) (ConstantOp (IntegerAttr (type_at ts ty) n)) h at (ap (λ (d : Attr TypeHandle). Some (ConstantOp (attr_tree ts d))) value_is) in
     record { kind = k.0; constant = ap is_constant_kind k.0; integer = k.1.integer; result = k.1.result; operands = k.1.bare; successors = k.1.ends_here }
+
+-- an operation of the form holds an integer
+pub constant_integer : (c : ContextData) (op : OpRef) (s : Spot) (value : ConstAttr) → IsSpot c op s → kind_at c.ops op ≡ Some (K.Constant value) → ((ty : TypeHandle) (n : ℕ) → ¬ (attr_data value ≡ IntegerAttr ty n)) → ⊥
+constant_integer c op s value h at none =
+    let ts = type_trees c.types in
+    let k = spot_kind c op s (K.Constant value) (ConstantOp (attr_tree ts (attr_data value))) h at refl in
+    let i = held_integer (value_type s.task.source) s.task.source s.op.operands s.op.result s.op.successors (attr_tree ts (attr_data value)) k.1 in
+    let n = integer_tree ts (attr_data value) i.0 i.1 i.2 in
+    none n.number i.1 n.is
 
 -- and its type is translated
 pub constant_held : (o : DialectOp) (type : TypeTree) (value : ℕ) → ConstantParts o type value → IsHeld type
 constant_held o type value parts = let h = parts.integer in subst IsHeld (sym h.1) (int_held h.0 h.2.0 (omega (arith, h.2.1)))
 
 -- the number of its type is there
-pub constant_type_there : (c : ContextData) (op : OpRef) (value : ConstAttr) (ty : TypeHandle) (n : ℕ) → IsTyped c → kind_at c.ops op ≡ Some (K.Constant value) → value ≡ A.Integer ty n → ty.0 < length c.types
+pub constant_type_there : (c : ContextData) (op : OpRef) (value : ConstAttr) (ty : TypeHandle) (n : ℕ) → IsTyped c → kind_at c.ops op ≡ Some (K.Constant value) → attr_data value ≡ IntegerAttr ty n → ty.0 < length c.types
 constant_type_there c op value ty n typed at value_is = by (slice_get c.ops op.0) refl at
   where
     by : (x : Option OpData) → slice_get c.ops op.0 ≡ x → option_map (λ (x : OpData). x.kind) x ≡ Some (K.Constant value) → ty.0 < length c.types
     by None e f = absurd (none-some _ f)
     by (Some x) e f =
-        let kind : x.kind ≡ K.Constant (A.Integer ty n) = same_Some x.kind (K.Constant value) f ∙ ap K.Constant value_is in
-        subst (HasKindTypesBelow (length c.types)) kind (typed.ops op.0 x e).kind
+        let kind : x.kind ≡ K.Constant value = same_Some x.kind (K.Constant value) f in
+        subst (HasTypesBelow (length c.types)) value_is (subst (HasKindTypesBelow (length c.types)) kind (typed.ops op.0 x e).kind)
 
 -- the constant of LLVM fits its type
 pub constant_fits : (m : Module) (o : DialectOp) (type : TypeTree) (value from : ℕ) (ty : LLVMType) → IsModule m → ConstantParts o type value → IsTypeOf m ty type → from ≡ value → (w : ℕ) × (slice_get m.types ty.0 ≡ Some (T.Int w)) × IsIntAt w from

@@ -13,7 +13,8 @@ use Rattle.llvm_core.specs.Parts.{IsValue}
 use Rattle.llvm_core.specs.Data as L
 use Rattle.kinds.specs.Held.{IsHeld}
 use Rattle.dialect_types.specs.declared.types.TypeHandle.{TypeHandle}
-use Rattle.dialect_types.specs.Trees.{TypeTree, type_at, type_trees, attr_tree}
+use Rattle.dialect_types.specs.Trees.{TypeTree, type_at, type_trees}
+use Rattle.const_attrs.specs.Trees.{attr_tree, attr_data}
 use Rattle.dialect_core.specs.declared.numbers.OpRef.{OpRef}
 use Rattle.dialect_core.specs.declared.ops.Value.{Value}
 use Rattle.dialect_core.specs.declared.ops.Successor.{Successor}
@@ -159,7 +160,7 @@ op_missing ts ops op k at is = by (slice_get ops op.0) at
 pub kind_there : (ts : List TypeTree) (k : OpKind) → (k ≡ K.Module → ⊥) → (k ≡ K.Func → ⊥) → (kind : Kind) × (kind_of ts k ≡ Some kind)
 kind_there ts K.Module h f = absurd (h refl)
 kind_there ts K.Func h f = absurd (f refl)
-kind_there ts (K.Constant value) h f = (ConstantOp (attr_tree ts value), refl)
+kind_there ts (K.Constant value) h f = (ConstantOp (attr_tree ts (attr_data value)), refl)
 kind_there ts (K.Filled fill) h f = (FilledOp fill, refl)
 kind_there ts (K.Row op) h f = (RowOp op, refl)
 

@@ -3,8 +3,9 @@ use Rattle.std.specs.Prelude.{◌+◌, ℕ, zero, suc, Bool, false, nat_eq, if�
 use Rattle.std.specs.List.{flat_map, find}
 use Rattle.std.specs.Option.{option_map_or}
 use Rattle.llvm_core.specs.Data as L
-use Rattle.llvm_core.specs.Data.{ConstTree, IntConst, filled_const, Operand, Parameter, Constant, RowData, Instruction, Placed}
-use Rattle.dialect_types.specs.Trees.{TypeTree, AttrTree, IntegerAttr}
+use Rattle.llvm_core.specs.Data.{ConstTree, IntConst, PlaceholderConst, filled_const, Operand, Parameter, Constant, RowData, Instruction, Placed}
+use Rattle.dialect_types.specs.Trees.{TypeTree, VoidType}
+use Rattle.const_attrs.specs.Trees.{AttrTree, IntegerAttr, FilledAttr, BytesAttr, AggregateAttr, SplatAttr}
 use Rattle.dialect_core.specs.declared.numbers.BlockRef.{BlockRef}
 use Rattle.dialect_core.specs.declared.ops.Value.{Value}
 use Rattle.dialect_core.specs.declared.ops.Value.TheVariants.{Result, Argument}
@@ -63,6 +64,11 @@ values_by order g = flat_map (block_values g) order
 
 abbrev pub const_of : AttrTree → ConstTree
 const_of (IntegerAttr type value) = IntConst (width_in type) value
+const_of (FilledAttr fill type) = filled_const fill type
+-- of no other is there one yet, and no operation of the form holds one
+const_of (BytesAttr bytes) = PlaceholderConst 0 VoidType
+const_of (AggregateAttr elements type) = PlaceholderConst 0 VoidType
+const_of (SplatAttr element type) = PlaceholderConst 0 VoidType
 
 -- the constant of a constant operation, with a result of that type; for any other operation the other operand
 abbrev pub constant_or : Operand → (result : Option TypeTree) → Kind → Operand

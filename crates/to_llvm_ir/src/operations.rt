@@ -8,7 +8,6 @@ ghost use Rattle.llvm_core.specs.Sound.{IsModule};
 ghost use Rattle.llvm_core.specs.Data.{data_of};
 ghost use Rattle.kinds.specs.Names.{IsGoodOrNone};
 ghost use Rattle.llvm_core.specs.Parts.{HasValues, result_type};
-ghost use Rattle.dialect_types.specs.declared.attrs.ConstAttr.TheVariants as attrs;
 ghost use Rattle.dialect_types.specs.Trees.{TypeTree, type_trees};
 ghost use Rattle.dialect_core.specs.declared.ops.OpKind.TheVariants as kinds;
 ghost use Rattle.dialect_core.specs.ContextData.{kind_at, IsValueWithin, IsSuccessorWithin};
@@ -27,10 +26,10 @@ use crate::guesses::Guesses;
 use crate::to_llvm_err::ToLLVMErr;
 use crate::types::value_type;
 use crate::values::Values;
+use const_attrs::const_attr::ConstAttr;
 use dialect_core::context::Context;
 use dialect_core::numbers::OpRef;
 use dialect_core::ops::{OpKind, Successor, Value};
-use dialect_types::attrs::ConstAttr;
 use dialect_types::types::TypeHandle;
 use kinds::fill::Fill;
 use kinds::op::Op;
@@ -125,15 +124,6 @@ fn lead(
     Ok(target.block)
 }
 
-/// The type and the value of a constant.
-fn parts_of(value: &ConstAttr) -> (TypeHandle, u64)
-    ensures { value.now ≡ attrs.Integer result.0 result.1 }
-{
-    match value {
-        ConstAttr::Integer(ty, number) => (*ty, *number),
-    }
-}
-
 /// A constant of LLVM for a constant that an attribute says.
 fn convert_constant(
     alloc: Global,
@@ -149,7 +139,10 @@ fn convert_constant(
     requires spot { (s : Spot) × IsNext ctx.now op s values.old back.old }
     ensures { (s : Spot) → IsNext ctx.now op s values.old back.old → OnOk result (IsBehindSpot s values.new back.new) }
 {
-    let (ty, number) = parts_of(value);
+    let Some((ty, number)) = value.as_integer() else {
+        // An operation of the form holds no other constant.
+        unreachable!();
+    };
     let ty = value_type(alloc, ctx, ty, guesses, back)?;
     let c = back.const_get(LLVMConstKind::Int(ty, u128::from(number)))?;
     values.set(Value::Result(op), LLVMValue::Const(c))

@@ -16,9 +16,10 @@ use Rattle.kinds.specs.Types.{shape}
 use Rattle.kinds.specs.Held.{IsFirstClass, width_in}
 use Rattle.kinds.proofs.HeldLaws.{int_first_class}
 use Rattle.dialect_types.specs.declared.types.TypeHandle.{TypeHandle}
-use Rattle.dialect_types.specs.declared.attrs.ConstAttr.{ConstAttr}
+use Rattle.const_attrs.specs.declared.const_attr.ConstAttr.{ConstAttr}
+use Rattle.const_attrs.specs.Trees.{IntegerAttr, FilledAttr, BytesAttr, AggregateAttr, SplatAttr, attr_data, HasTypesBelow}
 use Rattle.llvm_core.specs.declared.numbers.LLVMType.{LLVMType}
-use Rattle.dialect_types.specs.Trees.{TypeTree, VoidType, IntType, PointerType, FloatingType, RefusedType, ArrayType, VectorType, StructType, NamedType, FunctionType, IntegerAttr, HasTypesBelow, type_at, type_trees}
+use Rattle.dialect_types.specs.Trees.{TypeTree, VoidType, IntType, PointerType, FloatingType, RefusedType, ArrayType, VectorType, StructType, NamedType, FunctionType, type_at, type_trees}
 use Rattle.dialect_core.specs.declared.numbers.OpRef.{OpRef}
 use Rattle.dialect_core.specs.declared.numbers.BlockRef.{BlockRef}
 use Rattle.dialect_core.specs.declared.ops.Value.{Value}
@@ -217,12 +218,20 @@ module _ (c : ContextData) (g : Func) where
   -- the operands of a well-formed operation are values of the context, of first class types
   pub used_all : (vs : List Value) (own : Option TypeTree) (edges : List Successor) (k : Kind) → IsOfKind (type_in c) g vs own edges k → All (IsUsed c) vs
   used_all vs own edges (ConstantOp (IntegerAttr type value)) is = subst (All (IsUsed c)) (sym is.bare) (All-nil (IsUsed c))
+  used_all vs own edges (ConstantOp (FilledAttr fill type)) is = absurd is
+  used_all vs own edges (ConstantOp (BytesAttr bytes)) is = absurd is
+  used_all vs own edges (ConstantOp (AggregateAttr elements type)) is = absurd is
+  used_all vs own edges (ConstantOp (SplatAttr element type)) is = absurd is
   used_all vs own edges (FilledOp fill) is = subst (All (IsUsed c)) (sym is.bare) (All-nil (IsUsed c))
   used_all vs own edges (RowOp op) is = All-weaker (IsFirstClassBy (type_in c)) (IsUsed c) (λ v h. record { type = h.0; typed = h.1; first_class = h.2 }) vs is.values
 
   -- and so is its result, where it has one
   pub first_class_result : (vs : List Value) (own : Option TypeTree) (edges : List Successor) (k : Kind) → IsOfKind (type_in c) g vs own edges k → IfSome own IsFirstClass
   first_class_result vs own edges (ConstantOp (IntegerAttr type value)) is = rw is.result (integer_first_class type value is.integer)
+  first_class_result vs own edges (ConstantOp (FilledAttr fill type)) is = absurd is
+  first_class_result vs own edges (ConstantOp (BytesAttr bytes)) is = absurd is
+  first_class_result vs own edges (ConstantOp (AggregateAttr elements type)) is = absurd is
+  first_class_result vs own edges (ConstantOp (SplatAttr element type)) is = absurd is
   first_class_result vs own edges (FilledOp fill) is = rw is.result is.value
   first_class_result vs own edges (RowOp op) is = is.value
 
@@ -269,7 +278,7 @@ pub own_held : (trees : List TypeTree) (fill : Fill) (t : TypeTree) (place : LLV
 own_held trees fill t place own stands =
     subst (IsHeldAs trees (H.Filled fill place)) (sym (ap (λ (b : Bool). if b then Filled fill t else Int (width_in t) 0) own)) (filled_held trees fill place t stands)
 
-pub constant_within : (c : ContextData) (r : OpRef) (o : DialectOp) (value : ConstAttr) → IsTyped c → op_at (type_trees c.types) c.ops r ≡ Some o → option_map (λ (x : OpData). x.kind) (slice_get c.ops r.0) ≡ Some (O.Constant value) → HasTypesBelow (length c.types) value
+pub constant_within : (c : ContextData) (r : OpRef) (o : DialectOp) (value : ConstAttr) → IsTyped c → op_at (type_trees c.types) c.ops r ≡ Some o → option_map (λ (x : OpData). x.kind) (slice_get c.ops r.0) ≡ Some (O.Constant value) → HasTypesBelow (length c.types) (attr_data value)
 constant_within c r o value typed at is =
     let x = kept_op c r o at in
     let same : x.kept.kind ≡ O.Constant value = same_Some x.kept.kind (O.Constant value) (sym (ap (option_map (λ (y : OpData). y.kind)) x.there) ∙ is) in

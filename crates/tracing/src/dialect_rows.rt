@@ -2,8 +2,8 @@
 
 ghost use Rattle.std.specs.Prelude.{◌≡◌, ◌<◌, ℕ, List, All, IfOk, OnOk, IfSome, Some, length, map, slice_get};
 ghost use Rattle.kinds.specs.Held.{IsFirstClass};
-ghost use Rattle.dialect_types.specs.declared.attrs.ConstAttr.TheVariants as attrs;
-ghost use Rattle.dialect_types.specs.Trees.{TypeTree, IntType, IntegerAttr, HasTypesBelow, type_at, type_trees, attr_tree};
+ghost use Rattle.dialect_types.specs.Trees.{TypeTree, IntType, type_at, type_trees};
+ghost use Rattle.const_attrs.specs.Trees.{IntegerAttr, HasTypesBelow, attr_tree, attr_data};
 ghost use Rattle.dialect_core.specs.Data.{DialectBlock, DialectOp, FilledOp, RowOp, IsTyped, block_in, op_at, type_in};
 ghost use Rattle.dialect_core.specs.Rules.{IsIntegerOf};
 ghost use Rattle.meaning.specs.Terms.{filled_term};
@@ -21,11 +21,11 @@ use crate::body::{Action, Held, Row, Slot, Source};
 use crate::dialect_typing::place;
 use crate::trace::Types;
 use crate::type_places::TypePlaces;
+use const_attrs::const_attr::ConstAttr;
 use dialect_core::context::Context;
 use dialect_core::numbers::{BlockRef, OpRef};
 use dialect_core::ops::{OpKind, Value};
 use dialect_core::type_tests::shape_at;
-use dialect_types::attrs::ConstAttr;
 use dialect_types::types::{TypeHandle, TypeKind};
 use kinds::fill::Fill;
 use kinds::op::Op;
@@ -138,22 +138,15 @@ fn sources(alloc: Global, values: &[Value]) -> Result<Items<Source>, AllocError>
     Ok(sources)
 }
 
-/// The type and the value of a constant.
-fn parts_of(value: &ConstAttr) -> (TypeHandle, u64)
-    ensures { value.now ≡ attrs.Integer result.0 result.1 }
-{
-    match value {
-        ConstAttr::Integer(ty, number) => (*ty, *number),
-    }
-}
-
-/// What a constant operation does: it holds its constant.
+/// What a constant operation does: it holds its constant, an integer.
 fn constant(ctx: &Context, value: &ConstAttr) -> Action
-    requires within { HasTypesBelow (length ctx.now.types) value.now }
-    requires integer { (type : TypeTree) → (number : ℕ) → attr_tree (type_trees ctx.now.types) value.now ≡ IntegerAttr type number → IsIntegerOf type number }
-    ensures { (setting : Setting) → (trees : List TypeTree) → IsAction trees result (machine.Holds (dialect.attr_term setting (attr_tree (type_trees ctx.now.types) value.now))) }
+    requires within { HasTypesBelow (length ctx.now.types) (attr_data value.now) }
+    requires integer { (type : TypeTree) × (number : ℕ) × (attr_tree (type_trees ctx.now.types) (attr_data value.now) ≡ IntegerAttr type number) × IsIntegerOf type number }
+    ensures { (setting : Setting) → (trees : List TypeTree) → IsAction trees result (machine.Holds (dialect.attr_term setting (attr_tree (type_trees ctx.now.types) (attr_data value.now)))) }
 {
-    let (ty, number) = parts_of(value);
+    let Some((ty, number)) = value.as_integer() else {
+        unreachable!();
+    };
     Action::Holds(Held::Int(int_width(ctx, ty), u128::from(number)))
 }
 

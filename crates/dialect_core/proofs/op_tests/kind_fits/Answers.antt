@@ -1,13 +1,14 @@
 -- What `op_tests::kind_fits` owes besides what the check finds.
 use Rattle.std.proofs.Common.{ap, length, subst}
-use Rattle.dialect_types.specs.Trees.{attr_tree, type_trees}
+use Rattle.dialect_types.specs.Trees.{type_trees}
+use Rattle.const_attrs.specs.Trees.{attr_tree, attr_data}
 use Rattle.dialect_core.specs.Data.{ConstantOp, FilledOp, RowOp, HasKindTypesBelow, kind_of}
 use Rattle.dialect_core.specs.Checking.{func_at}
 use Rattle.dialect_core.proofs.OpTestLemmas.{kind_by}
 use Rattle.dialect_core.proofs.op_tests.kind_fits.Goals as goal
 
 pub returns-in-Constant : goal.returns-in-Constant
-returns-in-Constant c = kind_by c.args.ctx.now (func_at c.args.ctx.now c.args.func) c.args.kind.now c.args.operands.now c.args.own c.args.edges.now (ConstantOp (attr_tree (type_trees c.args.ctx.now.types) c.in-Constant.value)) c.constant_op_fits.result (ap (kind_of (type_trees c.args.ctx.now.types)) c.in-Constant.is) (c.constant_op_fits.ensures (func_at c.args.ctx.now c.args.func))
+returns-in-Constant c = kind_by c.args.ctx.now (func_at c.args.ctx.now c.args.func) c.args.kind.now c.args.operands.now c.args.own c.args.edges.now (ConstantOp (attr_tree (type_trees c.args.ctx.now.types) (attr_data c.in-Constant.value))) c.constant_op_fits.result (ap (kind_of (type_trees c.args.ctx.now.types)) c.in-Constant.is) (c.constant_op_fits.ensures (func_at c.args.ctx.now c.args.func))
 
 pub returns-in-Row : goal.returns-in-Row
 returns-in-Row c = kind_by c.args.ctx.now (func_at c.args.ctx.now c.args.func) c.args.kind.now c.args.operands.now c.args.own c.args.edges.now (RowOp c.in-Row.op) c.row_fits.result (ap (kind_of (type_trees c.args.ctx.now.types)) c.in-Row.is) c.row_fits.ensures

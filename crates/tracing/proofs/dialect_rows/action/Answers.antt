@@ -2,9 +2,12 @@
 use Rattle.std.proofs.Common.{Some, ap, refl, sym, subst, ◌∙◌}
 use Rattle.std.proofs.lemmas.Option.{same_Some}
 use Rattle.std.proofs.lemmas.Result.{IfOk-weaker}
-use Rattle.dialect_types.specs.Trees.{attr_tree, type_trees}
+use Rattle.dialect_types.specs.Trees.{type_trees}
+use Rattle.const_attrs.specs.Trees.{attr_tree, attr_data}
 use Rattle.dialect_core.specs.declared.ops.OpKind.TheVariants as O
-use Rattle.dialect_core.specs.Data.{ConstantOp, FilledOp, RowOp}
+use Rattle.dialect_core.specs.Data.{ConstantOp, FilledOp, RowOp, type_in}
+use Rattle.dialect_core.specs.Rules.{IsOfKind}
+use Rattle.dialect_core.proofs.RuleLemmas.{constant_integer}
 use Rattle.tracing.specs.TypePlaces.{trees_in}
 use Rattle.tracing.specs.Bodies.{IsAction}
 use Rattle.tracing.proofs.DialectLaws.{constant_within, kind_kept, action_of_kind}
@@ -15,12 +18,20 @@ constant-requires-clause-within c =
     let r = c.requires.here in
     constant_within c.args.ctx.now c.args.op r.1 c.in-Constant.value r.0.typed r.2.here (c.op_kind.ensures.kind ∙ ap Some c.in-Constant.is)
 
+pub constant-requires-clause-integer : goal.constant-requires-clause-integer
+constant-requires-clause-integer c =
+    let r = c.requires.here in
+    let x = c.args.ctx.now in
+    let tree = attr_tree (type_trees x.types) (attr_data c.in-Constant.value) in
+    let kept = kind_kept x c.args.op r.1 (O.Constant c.in-Constant.value) r.2.here (c.op_kind.ensures.kind ∙ ap Some c.in-Constant.is) in
+    constant_integer (type_in x) r.0.function r.1.operands r.1.result r.1.successors tree (subst (IsOfKind (type_in x) r.0.function r.1.operands r.1.result r.1.successors) (sym (same_Some (ConstantOp tree) r.1.kind kept)) r.2.form)
+
 pub returns-in-Constant-clause-is : goal.returns-in-Constant-clause-is
 returns-in-Constant-clause-is c = λ setting h o at.
     let x = c.args.ctx.now in
     let value = c.in-Constant.value in
     subst (IsAction (trees_in c.args.types.now) c.constant.result)
-    (action_of_kind setting x c.args.op o (O.Constant value) (ConstantOp (attr_tree (type_trees x.types) value)) at.here (c.op_kind.ensures.kind ∙ ap Some c.in-Constant.is) refl) (c.constant.ensures setting _)
+    (action_of_kind setting x c.args.op o (O.Constant value) (ConstantOp (attr_tree (type_trees x.types) (attr_data value))) at.here (c.op_kind.ensures.kind ∙ ap Some c.in-Constant.is) refl) (c.constant.ensures setting _)
 
 pub filling-requires-clause-here : goal.filling-requires-clause-here
 filling-requires-clause-here c =

@@ -1,0 +1,111 @@
+-- What stands for a constant of a module: an attribute, or an operation.
+use Rattle.std.specs.Prelude.{◌≡◌, ◌<◌, ℕ, IsTrue, List, [], Option, Some, None, length, slice_get}
+use Rattle.std.specs.Option.{option_map_or}
+use Rattle.kinds.specs.Types.{TypeTree, IntType}
+use Rattle.kinds.specs.Structs.{Struct, renamed}
+use Rattle.llvm_core.specs.declared.numbers.LLVMConst.{LLVMConst}
+use Rattle.llvm_core.specs.declared.numbers.LLVMType.{LLVMType}
+use Rattle.llvm_core.specs.Module.{Module}
+use Rattle.llvm_core.specs.Parts as numbers
+use Rattle.llvm_core.specs.Data.{ConstTree, IntConst, FilledConst, PlaceholderConst, const_at, const_type, trees_of}
+use Rattle.dialect_types.specs.declared.types.TypeHandle.{TypeHandle}
+use Rattle.dialect_types.specs.declared.types.TypeKind.{TypeKind}
+use Rattle.dialect_types.specs.Legalised.{Named}
+use Rattle.dialect_types.specs.Trees.{structs_of, type_at, type_trees}
+use Rattle.const_attrs.specs.declared.const_attr.ConstAttr.{ConstAttr}
+use Rattle.const_attrs.specs.Trees.{AttrTree, IntegerAttr, FilledAttr, attr_tree, attr_data, type_of, HasTypesBelow}
+use Rattle.const_attrs.specs.Verified.{broken}
+use Rattle.dialect_core.specs.declared.numbers.OpRef.{OpRef}
+use Rattle.dialect_core.specs.declared.ops.OpKind.{OpKind}
+use Rattle.dialect_core.specs.declared.ops.OpData.{OpData}
+use Rattle.dialect_core.specs.ContextData.{ContextData, with_op, is_plain}
+use Rattle.dialect_core.specs.Data.{DialectOp, HasKindTypesBelow, op_of, op_at}
+use Rattle.dialect_core.specs.WellFormed.{Typing}
+use Rattle.meaning.specs.Dialect.{typed_action}
+use Rattle.meaning.specs.Llvm.{const_term}
+use Rattle.meaning.specs.Machine.{Holds}
+use Rattle.meaning.specs.Setting.{Setting}
+use Rattle.meaning.specs.Terms.{rename}
+use Rattle.from_consts.specs.declared.const_context.ConstContext.{ConstContext}
+use Rattle.from_consts.specs.declared.conversion_err.ConversionErr.{ConversionErr}
+use Rattle.from_consts.specs.declared.conversion_err.ConversionErr.TheVariants as E
+use Rattle.from_consts.specs.Given.{Gives, StandsFor}
+use Rattle.from_consts.specs.Names.{called}
+use Rattle.from_consts.specs.Parts.{IsWithin}
+use Rattle.from_consts.specs.Refusals.{IsCause}
+
+-- ---- a constant of a module, by its number
+
+abbrev pub tree_at : Module → LLVMConst → ConstTree
+tree_at m c = const_at (trees_of m).consts c
+
+-- the number of its type
+abbrev pub type_number : Module → LLVMConst → LLVMType
+type_number m c = option_map_or numbers.const_type (slice_get m.consts c.0) (record { 0 = 0 })
+
+-- the type is within that of the constant
+abbrev pub IsInConst : Module → LLVMConst → LLVMType → Type 0
+IsInConst m c u = IsWithin m u (type_number m c)
+
+-- ---- attributes
+
+-- The attribute of a constant, where structs are called so; a placeholder has none. A line for each kind.
+abbrev pub attr_of : (List ℕ → List ℕ) → ConstTree → Option AttrTree
+attr_of to (IntConst width value) = Some (IntegerAttr (IntType width) value)
+attr_of to (FilledConst fill t) = Some (FilledAttr fill (renamed to t))
+attr_of to (PlaceholderConst number t) = None
+
+-- it is the constant's attribute and keeps the rules of constants, and its type stands for that of the constant
+pub record IsAttrFor (m : Module) (given : List Named) (ks : List TypeKind) (c : LLVMConst) (a : ConstAttr) : Type 0 where
+  pub within : HasTypesBelow (length ks) (attr_data a)
+  pub is : attr_of (called given) (tree_at m c) ≡ Some (attr_tree (type_trees ks) (attr_data a))
+  pub keeps : broken (structs_of ks) (attr_tree (type_trees ks) (attr_data a)) ≡ None
+  pub type : TypeHandle
+  pub typed : type_of (attr_tree (type_trees ks) (attr_data a)) ≡ type_at (type_trees ks) type
+  pub stands : StandsFor m given ks (type_number m c) type
+
+-- an attribute made of a constant and of the type that stands for its type: the constant's, wherever that is so
+pub record IsAttrMade (c : ConstTree) (ty : TypeHandle) (a : ConstAttr) : Type 0 where
+  pub within : (n : ℕ) → ty.0 < n → HasTypesBelow n (attr_data a)
+  pub is : (ts : List TypeTree) (to : List ℕ → List ℕ) → type_at ts ty ≡ renamed to (const_type c) → attr_of to c ≡ Some (attr_tree ts (attr_data a))
+  pub keeps : (structs : List Struct) (ts : List TypeTree) (to : List ℕ → List ℕ) → type_at ts ty ≡ renamed to (const_type c) → broken structs (attr_tree ts (attr_data a)) ≡ None
+  pub typed : (ts : List TypeTree) → type_of (attr_tree ts (attr_data a)) ≡ type_at ts ty
+
+-- ---- operations
+
+-- The operation stands for the constant: it takes nothing and leads nowhere, its result has the constant's type, and in a run it
+-- holds the constant's term, where structs are called so.
+pub record IsOpFor (given : List Named) (c : ConstTree) (o : DialectOp) : Type 0 where
+  pub operands : o.operands ≡ []
+  pub successors : o.successors ≡ []
+  pub result : o.result ≡ Some (renamed (called given) (const_type c))
+  pub term : (setting : Setting) (types : Typing) (block : List ℕ → ℕ → ℕ) → typed_action setting types o o.kind ≡ Holds (rename (record { block = block; struct = called given }) (const_term setting c))
+
+-- what a context keeps of an operation that takes nothing, with a result of that type
+abbrev pub op_data : OpKind → TypeHandle → OpData
+op_data kind ty = record { kind = kind; name = None; operands = []; successors = []; result = Some ty; symbol = None; blocks = [] }
+
+-- such an operation of that kind stands for the constant, where its result has the constant's type
+pub record IsKindFor (c : ConstTree) (ty : TypeHandle) (kind : OpKind) : Type 0 where
+  pub plain : IsTrue (is_plain kind)
+  pub types : (n : ℕ) → ty.0 < n → HasKindTypesBelow n kind
+  pub stands : (ts : List TypeTree) (given : List Named) (op : OpRef) → type_at ts ty ≡ renamed (called given) (const_type c) → (o : DialectOp) × (op_of ts op (op_data kind ty) ≡ Some o) × IsOpFor given c o
+
+-- The context has what a conversion of the constant's type gave, and behind that one operation, in no block, which stands for the
+-- constant.
+pub record AddsOp (m : Module) (c : LLVMConst) (a : ContextData) (x : ConstContext) (b : ContextData) (y : ConstContext) (op : OpRef) : Type 0 where
+  pub typed : ContextData
+  pub gives : Gives m (IsInConst m c) a x typed y
+  pub new : OpData
+  pub is : b ≡ with_op typed new
+  pub number : op.0 ≡ length a.ops
+  pub made : DialectOp
+  pub at : op_at (type_trees b.types) b.ops op ≡ Some made
+  pub stands : IsOpFor y.names (tree_at m c) made
+
+-- ---- refusals
+
+-- why a constant is refused: it is an integer of more than 64 bits, or its type is refused
+abbrev pub IsConstCause : Module → LLVMConst → (before : List Struct) → (given : List Named) → ConversionErr → Type 0
+IsConstCause m c before given (E.IntConstTooWide width) = (value : ℕ) × (tree_at m c ≡ IntConst width value) × (64 < width)
+IsConstCause m c before given e = IsCause m (IsInConst m c) before given e
