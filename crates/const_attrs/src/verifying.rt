@@ -13,14 +13,14 @@ use dialect_types::types::{StructFields, TypeHandle, TypeKind};
 use kinds::types::VectorTypeKind;
 
 /// The greatest width of an integer that an attribute holds.
-const MAX_WIDTH: u32 = 64;
+const MAX_SHORT: u32 = 64;
 
 /// Whether an integer is below 2 to the power of a width.
 fn is_below(value: u64, width: u32) -> bool
     requires { width ≤ 64 }
     ensures { result ≡ nat_lt value (2 ^ width) }
 {
-    width == MAX_WIDTH || value < 1 << width
+    width == MAX_SHORT || value < 1 << width
 }
 
 /// Whether an integer is one of a type.
@@ -29,7 +29,7 @@ fn is_in_range(types: &TypeStore, ty: TypeHandle, value: u64) -> bool
     ensures { result ≡ is_in_range (type_at (type_trees types.now) ty) value }
 {
     match types.kind(ty) {
-        TypeKind::Integer(width) => *width <= MAX_WIDTH && is_below(value, *width),
+        TypeKind::Integer(width) => *width <= MAX_SHORT && is_below(value, *width),
         _ => false,
     }
 }

@@ -10,7 +10,7 @@ use Rattle.dialect_parsing.specs.Spelling.{written, IsOfDialect}
 use Rattle.dialect_parsing.specs.Symbols.{symbols_of}
 use Rattle.dialect_parsing.specs.Tokens.{Text}
 
--- the type of an integer inside the text of the integer; of any other type there is no integer
+-- the type of an integer inside the text of the integer; the dialect has no text of an integer of any other type
 abbrev pub inner_written : TypeTree → List Symbol → List Symbol
 inner_written (IntType w) ss = S.Bits w ∷ ss
 inner_written _ ss = ss

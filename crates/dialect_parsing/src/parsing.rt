@@ -28,8 +28,8 @@ fn place_of(places: &[u32], read: usize) -> u32
     }
 }
 
-/// The number of the type that a text spells, new or old; a struct with a name is one that the store holds. Where the text spells none, or memory is wanting, the store may
-/// have more types than before: parts that were read.
+/// The number of the type that a text spells, new or old; a struct with a name is one that the store holds. Where the text
+/// spells none, or memory is wanting, the store may have more types than before: parts that were read.
 pub fn parse_type(
     alloc: Global,
     types: &mut TypeStore,

@@ -1,4 +1,4 @@
-//! Why a conversion of a type refuses it, and an import a module.
+//! Why a conversion refuses a type or a constant, and an import a module.
 
 ghost use Rattle.std.specs.Prelude.{◌≡◌};
 ghost use Rattle.from_consts.specs.declared.conversion_err.ConversionErr.TheVariants.{NoMemory};
@@ -20,7 +20,7 @@ pub enum Unsupported {
     Ty(OtherType),
 }
 
-/// Why a type is not converted, or a module not imported.
+/// Why a type or a constant is not converted, or a module not imported.
 #[derive(Drop, Error)]
 pub enum ConversionErr {
     /// Of an import alone. The result of an instruction is used where it is not defined: its name, empty where it has none, and the
@@ -28,7 +28,8 @@ pub enum ConversionErr {
     /// in another block; or they share a block, and the definition is not ahead of the use.
     #[error("UndefinedValue")]
     UndefinedValue(Text, LLVMValue),
-    /// Of an import alone. An instruction uses an integer constant of this width, which is more than 64 bits.
+    /// The constant that is converted is an integer of this width, which is more than 64 bits, or an instruction of the module
+    /// that is imported uses one.
     #[error("IntConstTooWide")]
     IntConstTooWide(u32),
     /// A part that is not translated.
