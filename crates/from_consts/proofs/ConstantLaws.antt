@@ -20,7 +20,7 @@ use Rattle.llvm_core.specs.Module.{Module}
 use Rattle.llvm_core.specs.Parts.{IsConstOver, value_type}
 use Rattle.llvm_core.specs.Parts as numbers
 use Rattle.llvm_core.specs.Sound.{IsModule}
-use Rattle.llvm_core.specs.Data.{ConstTree, IntConst, FilledConst, const_type, type_at, trees_of}
+use Rattle.llvm_core.specs.Data.{ConstTree, IntConst, FilledConst, PlaceholderConst, const_type, type_at, trees_of}
 use Rattle.llvm_core.specs.Form.{IsShortConst}
 use Rattle.llvm_core.proofs.DataLemmas.{int_tree_of, int_const_of, filled_const_of, placeholder_const_of, const_type_of}
 use Rattle.dialect_types.specs.declared.types.TypeHandle.{TypeHandle}
@@ -40,11 +40,15 @@ use Rattle.dialect_core.specs.declared.ops.OpKind.TheVariants as K
 use Rattle.dialect_core.specs.ContextData.{ContextData, with_op}
 use Rattle.dialect_core.proofs.CallerLemmas.{new_op_at}
 use Rattle.dialect_core.specs.declared.ops.Value.{Value}
-use Rattle.dialect_core.specs.Data.{DialectOp, ConstantOp, FilledOp, op_at}
+use Rattle.dialect_core.specs.Data.{DialectOp, IsTypedOp, Kind, ConstantOp, FilledOp, op_at}
+use Rattle.meaning.specs.Dialect.{attr_term}
+use Rattle.meaning.specs.Llvm.{const_term}
 use Rattle.meaning.specs.Machine.{Action, Holds}
-use Rattle.meaning.specs.Terms.{Term, Int, filled_term}
+use Rattle.meaning.specs.Setting.{Setting}
+use Rattle.meaning.specs.Terms.{Term, Int, filled_term, rename}
 use Rattle.meaning.proofs.RenamedLaws.{filled_under}
-use Rattle.from_consts.specs.Constants.{attr_of, op_data, tree_at, type_number, AddsOp, IsAttrFor, IsAttrMade, IsInConst, IsKindFor}
+use Rattle.from_consts.specs.Constants.{attr_of, op_data, tree_at, type_number, AddsOp, IsAttrFor, IsInConst}
+use Rattle.from_consts.specs.Steps.{IsAttrMade, IsKindFor}
 use Rattle.from_consts.specs.Given.{Gives, StandsFor}
 use Rattle.from_consts.specs.declared.const_context.ConstContext.{ConstContext}
 use Rattle.from_consts.specs.Names.{called}
@@ -116,6 +120,12 @@ made_type m given ks c k ty sound at stands =
     let number : type_number m c ≡ numbers.const_type k = ap (λ (o : Option LLVMConstKind). option_map_or numbers.const_type o (record { 0 = 0 })) at in
     stands.is ∙ ap (λ (t : LLVMType). renamed (called given) (type_at (trees_of m).types t)) number ∙ ap (renamed (called given)) (sym (const_type_of m c k sound at))
 
+-- the attribute of a constant has its term
+attr_holds : (given : List Named) (c : ConstTree) (a : AttrTree) → attr_of (called given) c ≡ Some a → (setting : Setting) (block : List ℕ → ℕ → ℕ) → attr_term setting a ≡ rename (record { block = block; struct = called given }) (const_term setting c)
+attr_holds given (IntConst width value) a is setting block = ap (attr_term setting) (sym (same_Some (IntegerAttr (IntType width) value) a is))
+attr_holds given (FilledConst fill t) a is setting block = ap (attr_term setting) (sym (same_Some (FilledAttr fill (renamed (called given) t)) a is)) ∙ sym (filled_under (record { block = block; struct = called given }) fill t)
+attr_holds given (PlaceholderConst number t) a is setting block = cc
+
 -- what is made of the type that stands for the constant's is the constant's attribute
 pub made_for : (m : Module) (given : List Named) (ks : List TypeKind) (c : LLVMConst) (k : LLVMConstKind) (ty : TypeHandle) (a : ConstAttr) → IsModule m → slice_get m.consts c.0 ≡ Some k → StandsFor m given ks (type_number m c) ty → IsAttrMade (tree_at m c) ty a → IsAttrFor m given ks c a
 made_for m given ks c k ty a sound at stands made =
@@ -123,6 +133,7 @@ made_for m given ks c k ty a sound at stands made =
     record {
       within = made.within (length ks) stands.within;
       is = made.is (type_trees ks) (called given) type;
+      term = attr_holds given (tree_at m c) (attr_tree (type_trees ks) (attr_data a)) (made.is (type_trees ks) (called given) type);
       keeps = made.keeps (structs_of ks) (type_trees ks) (called given) type;
       type = ty;
       typed = made.typed (type_trees ks);
@@ -143,6 +154,7 @@ int_op width value ty = record {
     record { number = op.0; name = None; kind = ConstantOp (IntegerAttr (at.type_at ts ty) value); operands = []; successors = []; result = Some (at.type_at ts ty) },
     ap (λ (d : Attr TypeHandle). let o : Option DialectOp = Some (record { number = op.0; name = None; kind = ConstantOp (attr_tree ts d); operands = []; successors = []; result = Some (at.type_at ts ty) }) in o) (integer_data ty value),
     record {
+      kind = ap (λ (t : TypeTree). let k : Option Kind = Some (ConstantOp (IntegerAttr t value)) in k) (sym is);
       operands = refl;
       successors = refl;
       result = ap (λ (t : TypeTree). Some t) is;
@@ -159,6 +171,7 @@ filled_op fill t ty = record {
     record { number = op.0; name = None; kind = FilledOp fill; operands = []; successors = []; result = Some (at.type_at ts ty) },
     refl,
     record {
+      kind = refl;
       operands = refl;
       successors = refl;
       result = ap (λ (u : TypeTree). Some u) is;
@@ -185,10 +198,13 @@ adds_op m c a typed b x y kind ty op there sound gives stands for is number =
     record {
       typed = typed;
       gives = gives;
-      new = op_data kind ty;
+      kind = kind;
+      type = ty;
       is = is;
+      below = subst (λ (d : ContextData). IsTypedOp (length d.types) (op_data kind ty)) (sym is) (record { kind = for.types (length typed.types) stands.within; result = stands.within; symbol = tt });
+      stands = subst (λ (d : ContextData). StandsFor m y.names d.types (type_number m c) ty) (sym is) stands;
       number = number ∙ ap (λ (d : ContextData). length d.ops) gives.types.rest;
       made = made.0;
       at = ap (λ (d : ContextData). op_at (type_trees d.types) d.ops op) is ∙ new_op_at ts typed.ops (op_data kind ty) op number ∙ made.1;
-      stands = made.2;
+      of = made.2;
     }

@@ -1,7 +1,7 @@
 -- What stands for a constant of a module: an attribute, or an operation.
-use Rattle.std.specs.Prelude.{◌≡◌, ◌<◌, ℕ, IsTrue, List, [], Option, Some, None, length, slice_get}
+use Rattle.std.specs.Prelude.{◌≡◌, ◌<◌, ℕ, List, [], Option, Some, None, length, slice_get}
 use Rattle.std.specs.Option.{option_map_or}
-use Rattle.kinds.specs.Types.{TypeTree, IntType}
+use Rattle.kinds.specs.Types.{IntType}
 use Rattle.kinds.specs.Structs.{Struct, renamed}
 use Rattle.llvm_core.specs.declared.numbers.LLVMConst.{LLVMConst}
 use Rattle.llvm_core.specs.declared.numbers.LLVMType.{LLVMType}
@@ -18,10 +18,10 @@ use Rattle.const_attrs.specs.Verified.{broken}
 use Rattle.dialect_core.specs.declared.numbers.OpRef.{OpRef}
 use Rattle.dialect_core.specs.declared.ops.OpKind.{OpKind}
 use Rattle.dialect_core.specs.declared.ops.OpData.{OpData}
-use Rattle.dialect_core.specs.ContextData.{ContextData, with_op, is_plain}
-use Rattle.dialect_core.specs.Data.{DialectOp, HasKindTypesBelow, op_of, op_at}
+use Rattle.dialect_core.specs.ContextData.{ContextData, with_op}
+use Rattle.dialect_core.specs.Data.{DialectOp, Kind, ConstantOp, FilledOp, IsTypedOp, op_at}
 use Rattle.dialect_core.specs.WellFormed.{Typing}
-use Rattle.meaning.specs.Dialect.{typed_action}
+use Rattle.meaning.specs.Dialect.{attr_term, typed_action}
 use Rattle.meaning.specs.Llvm.{const_term}
 use Rattle.meaning.specs.Machine.{Holds}
 use Rattle.meaning.specs.Setting.{Setting}
@@ -55,27 +55,28 @@ attr_of to (IntConst width value) = Some (IntegerAttr (IntType width) value)
 attr_of to (FilledConst fill t) = Some (FilledAttr fill (renamed to t))
 attr_of to (PlaceholderConst number t) = None
 
--- it is the constant's attribute and keeps the rules of constants, and its type stands for that of the constant
+-- it is the constant's attribute, has its term and keeps the rules of constants, and its type stands for that of the constant
 pub record IsAttrFor (m : Module) (given : List Named) (ks : List TypeKind) (c : LLVMConst) (a : ConstAttr) : Type 0 where
   pub within : HasTypesBelow (length ks) (attr_data a)
   pub is : attr_of (called given) (tree_at m c) ≡ Some (attr_tree (type_trees ks) (attr_data a))
+  pub term : (setting : Setting) (block : List ℕ → ℕ → ℕ) → attr_term setting (attr_tree (type_trees ks) (attr_data a)) ≡ rename (record { block = block; struct = called given }) (const_term setting (tree_at m c))
   pub keeps : broken (structs_of ks) (attr_tree (type_trees ks) (attr_data a)) ≡ None
   pub type : TypeHandle
   pub typed : type_of (attr_tree (type_trees ks) (attr_data a)) ≡ type_at (type_trees ks) type
   pub stands : StandsFor m given ks (type_number m c) type
 
--- an attribute made of a constant and of the type that stands for its type: the constant's, wherever that is so
-pub record IsAttrMade (c : ConstTree) (ty : TypeHandle) (a : ConstAttr) : Type 0 where
-  pub within : (n : ℕ) → ty.0 < n → HasTypesBelow n (attr_data a)
-  pub is : (ts : List TypeTree) (to : List ℕ → List ℕ) → type_at ts ty ≡ renamed to (const_type c) → attr_of to c ≡ Some (attr_tree ts (attr_data a))
-  pub keeps : (structs : List Struct) (ts : List TypeTree) (to : List ℕ → List ℕ) → type_at ts ty ≡ renamed to (const_type c) → broken structs (attr_tree ts (attr_data a)) ≡ None
-  pub typed : (ts : List TypeTree) → type_of (attr_tree ts (attr_data a)) ≡ type_at ts ty
-
 -- ---- operations
 
--- The operation stands for the constant: it takes nothing and leads nowhere, its result has the constant's type, and in a run it
+-- what the operation of a constant holds; a placeholder has none. A line for each kind.
+abbrev pub kind_for : ConstTree → Option Kind
+kind_for (IntConst width value) = Some (ConstantOp (IntegerAttr (IntType width) value))
+kind_for (FilledConst fill t) = Some (FilledOp fill)
+kind_for (PlaceholderConst number t) = None
+
+-- The operation is that of the constant: it takes nothing and leads nowhere, its result has the constant's type, and in a run it
 -- holds the constant's term, where structs are called so.
 pub record IsOpFor (given : List Named) (c : ConstTree) (o : DialectOp) : Type 0 where
+  pub kind : kind_for c ≡ Some o.kind
   pub operands : o.operands ≡ []
   pub successors : o.successors ≡ []
   pub result : o.result ≡ Some (renamed (called given) (const_type c))
@@ -85,23 +86,20 @@ pub record IsOpFor (given : List Named) (c : ConstTree) (o : DialectOp) : Type 0
 abbrev pub op_data : OpKind → TypeHandle → OpData
 op_data kind ty = record { kind = kind; name = None; operands = []; successors = []; result = Some ty; symbol = None; blocks = [] }
 
--- such an operation of that kind stands for the constant, where its result has the constant's type
-pub record IsKindFor (c : ConstTree) (ty : TypeHandle) (kind : OpKind) : Type 0 where
-  pub plain : IsTrue (is_plain kind)
-  pub types : (n : ℕ) → ty.0 < n → HasKindTypesBelow n kind
-  pub stands : (ts : List TypeTree) (given : List Named) (op : OpRef) → type_at ts ty ≡ renamed (called given) (const_type c) → (o : DialectOp) × (op_of ts op (op_data kind ty) ≡ Some o) × IsOpFor given c o
-
--- The context has what a conversion of the constant's type gave, and behind that one operation, in no block, which stands for the
--- constant.
+-- The context has what a conversion of the constant's type gave, and behind that one operation, in no block and without a name,
+-- which is that of the constant; the type of its result stands for that of the constant.
 pub record AddsOp (m : Module) (c : LLVMConst) (a : ContextData) (x : ConstContext) (b : ContextData) (y : ConstContext) (op : OpRef) : Type 0 where
   pub typed : ContextData
   pub gives : Gives m (IsInConst m c) a x typed y
-  pub new : OpData
-  pub is : b ≡ with_op typed new
+  pub kind : OpKind
+  pub type : TypeHandle
+  pub is : b ≡ with_op typed (op_data kind type)
+  pub below : IsTypedOp (length b.types) (op_data kind type)
+  pub stands : StandsFor m y.names b.types (type_number m c) type
   pub number : op.0 ≡ length a.ops
   pub made : DialectOp
   pub at : op_at (type_trees b.types) b.ops op ≡ Some made
-  pub stands : IsOpFor y.names (tree_at m c) made
+  pub of : IsOpFor y.names (tree_at m c) made
 
 -- ---- refusals
 

@@ -10,7 +10,8 @@ ghost use Rattle.llvm_core.specs.Sound.{IsModule};
 ghost use Rattle.dialect_types.specs.Trees.{structs_of};
 ghost use Rattle.dialect_core.specs.declared.numbers.OpRef.{OpRef};
 ghost use Rattle.dialect_core.specs.declared.ops.Value.TheVariants as values;
-ghost use Rattle.from_consts.specs.Constants.{attr_of, tree_at, type_number, AddsOp, IsAttrFor, IsAttrMade, IsConstCause, IsInConst, IsKindFor};
+ghost use Rattle.from_consts.specs.Constants.{attr_of, tree_at, type_number, AddsOp, IsAttrFor, IsConstCause, IsInConst};
+ghost use Rattle.from_consts.specs.Steps.{IsAttrMade, IsKindFor};
 ghost use Rattle.from_consts.specs.Given.{Gives, IsContextFor, StandsFor};
 ghost use Rattle.from_consts.specs.declared.conversion_err.ConversionErr.TheVariants as errors;
 

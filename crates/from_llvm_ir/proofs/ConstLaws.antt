@@ -22,7 +22,6 @@ use Rattle.kinds.specs.Structs.{Struct}
 use Rattle.dialect_types.specs.declared.types.TypeHandle.{TypeHandle}
 use Rattle.const_attrs.specs.declared.const_attr.ConstAttr.TheVariants as A
 use Rattle.dialect_types.specs.Trees as trees
-use Rattle.dialect_types.specs.declared.types.TypeHandle.{TypeHandle}
 use Rattle.dialect_types.specs.Trees.{TypeTree}
 use Rattle.const_attrs.specs.Trees.{Attr, IntegerAttr, attr_tree, HasTypesBelow}
 use Rattle.const_attrs.proofs.DataLaws.{integer_data}
