@@ -1,0 +1,2 @@
+-- The lemmas that proofs cite.
+pub mod ConvertedLaws
