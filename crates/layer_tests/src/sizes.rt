@@ -12,5 +12,5 @@ fn rows_are_small(rt: HostRuntime) {
     assert_eq!(rt; size_of::<Row>(), 72);
     assert_eq!(rt; size_of::<InstData>(), 112);
     assert_eq!(rt; size_of::<Successor>(), 48);
-    assert_eq!(rt; size_of::<OpData>(), 160);
+    assert_eq!(rt; size_of::<OpData>(), 184);
 }
