@@ -17,12 +17,12 @@ use Rattle.llvm_core.specs.declared.consts.LLVMConstKind.{LLVMConstKind}
 use Rattle.llvm_core.specs.declared.consts.LLVMConstKind.TheVariants as C
 use Rattle.llvm_core.specs.declared.code.LLVMValue.TheVariants as V
 use Rattle.llvm_core.specs.Module.{Module}
-use Rattle.llvm_core.specs.Parts.{IsConstOver, value_type}
+use Rattle.llvm_core.specs.Consts.{IsConstIn}
+use Rattle.llvm_core.specs.Parts.{value_type}
 use Rattle.llvm_core.specs.Parts as numbers
 use Rattle.llvm_core.specs.Sound.{IsModule}
-use Rattle.llvm_core.specs.Data.{ConstTree, IntConst, FilledConst, PlaceholderConst, const_type, type_at, trees_of}
-use Rattle.llvm_core.specs.Form.{IsShortConst}
-use Rattle.llvm_core.proofs.DataLemmas.{int_tree_of, int_const_of, filled_const_of, placeholder_const_of, const_type_of}
+use Rattle.llvm_core.specs.Data.{ConstTree, IntConst, FilledConst, BytesConst, ListConst, SplatConst, PlaceholderConst, const_tree, const_type, type_at, trees_of}
+use Rattle.llvm_core.proofs.DataLemmas.{int_tree_of, int_const_of, filled_const_of, const_tree_of, const_type_of}
 use Rattle.dialect_types.specs.declared.types.TypeHandle.{TypeHandle}
 use Rattle.dialect_types.specs.declared.types.TypeKind.{TypeKind}
 use Rattle.dialect_types.specs.Legalised.{Named}
@@ -47,8 +47,8 @@ use Rattle.meaning.specs.Machine.{Action, Holds}
 use Rattle.meaning.specs.Setting.{Setting}
 use Rattle.meaning.specs.Terms.{Term, Int, filled_term, rename}
 use Rattle.meaning.proofs.RenamedLaws.{filled_under}
-use Rattle.from_consts.specs.Constants.{attr_of, op_data, tree_at, type_number, AddsOp, IsAttrFor, IsInConst}
-use Rattle.from_consts.specs.Steps.{IsAttrMade, IsKindFor}
+use Rattle.from_consts.specs.Constants.{attr_of, kind_for, op_data, tree_at, type_number, AddsOp, IsAttrFor, IsInConst}
+use Rattle.from_consts.specs.Steps.{IsAttrMade, IsKindFor, IsShortInt}
 use Rattle.from_consts.specs.Given.{Gives, StandsFor}
 use Rattle.from_consts.specs.declared.const_context.ConstContext.{ConstContext}
 use Rattle.from_consts.specs.Names.{called}
@@ -67,19 +67,23 @@ module _ (m : Module) (c : LLVMConst) where
   int_at t value width sound at typed = int_const_of m c t value at ∙ ap (λ (τ : TypeTree). IntConst (width_in τ) value) (int_tree_of m t width sound typed)
 
   -- and fits a word, where that is at most 64 bits
-  pub int_fits : (t : LLVMType) (value : ℕ) → IsModule m → slice_get m.consts c.0 ≡ Some (C.Int t value) → IsConstOver m.types (C.Int t value) → IsShortConst (tree_at m c) → value < 2 ^ 64
+  pub int_fits : (t : LLVMType) (value : ℕ) → IsModule m → slice_get m.consts c.0 ≡ Some (C.Int t value) → IsConstIn m (C.Int t value) → IsShortInt (tree_at m c) → value < 2 ^ 64
   int_fits t value sound at (width, typed, fits) short =
-      let few = subst IsShortConst (int_at t value width sound at typed) short in
+      let few = subst IsShortInt (int_at t value width sound at typed) short in
       let below = fits.0 in
       let bound : 2 ^ width ≤ 2 ^ 64 = pow-le-pow_right {n = 2} (omega arith) {i = width} {j = 64} few in
       omega (arith, below, bound)
 
   -- the others are short whatever they are
-  pub filled_short : (fill : Fill) (t : LLVMType) → slice_get m.consts c.0 ≡ Some (C.Filled fill t) → IsShortConst (tree_at m c)
-  filled_short fill t at = subst IsShortConst (sym (filled_const_of m c fill t at)) tt
+  pub filled_short : (fill : Fill) (t : LLVMType) → slice_get m.consts c.0 ≡ Some (C.Filled fill t) → IsShortInt (tree_at m c)
+  filled_short fill t at = subst IsShortInt (sym (filled_const_of m c fill t at)) tt
 
-  pub placeholder_short : (number : ℕ) (t : LLVMType) → slice_get m.consts c.0 ≡ Some (C.Placeholder number t) → IsShortConst (tree_at m c)
-  placeholder_short number t at = subst IsShortConst (sym (placeholder_const_of m c number t at)) tt
+  -- the tree of the kind that stands there
+  pub tree_of : (k : LLVMConstKind) → IsModule m → slice_get m.consts c.0 ≡ Some k → tree_at m c ≡ const_tree (trees_of m).types (trees_of m).consts k
+  tree_of k sound at = const_tree_of m c k at (sound.consts_below c.0 k at)
+
+  pub other_short : (k : LLVMConstKind) → IsModule m → slice_get m.consts c.0 ≡ Some k → IsShortInt (const_tree (trees_of m).types (trees_of m).consts k) → IsShortInt (tree_at m c)
+  other_short k sound at h = subst IsShortInt (sym (tree_of k sound at)) h
 
 -- ---- attributes
 
@@ -103,16 +107,19 @@ filled_attr fill t ty a data_is = record {
 }
 
 module _ (m : Module) (c : LLVMConst) where
-  pub int_attr_at : (t : LLVMType) (value : ℕ) (ty : TypeHandle) → IsModule m → slice_get m.consts c.0 ≡ Some (C.Int t value) → IsConstOver m.types (C.Int t value) → IsShortConst (tree_at m c) → IsAttrMade (tree_at m c) ty (A.Integer ty value)
+  pub int_attr_at : (t : LLVMType) (value : ℕ) (ty : TypeHandle) → IsModule m → slice_get m.consts c.0 ≡ Some (C.Int t value) → IsConstIn m (C.Int t value) → IsShortInt (tree_at m c) → IsAttrMade (tree_at m c) ty (A.Integer ty value)
   int_attr_at t value ty sound at (width, typed, fits) short =
       let is = int_at m c t value width sound at typed in
-      subst (λ (x : ConstTree). IsAttrMade x ty (A.Integer ty value)) (sym is) (int_attr width value ty (subst IsShortConst is short) fits.0)
+      subst (λ (x : ConstTree). IsAttrMade x ty (A.Integer ty value)) (sym is) (int_attr width value ty (subst IsShortInt is short) fits.0)
 
   pub filled_attr_at : (fill : Fill) (t : LLVMType) (ty : TypeHandle) (a : ConstAttr) → slice_get m.consts c.0 ≡ Some (C.Filled fill t) → attr_data a ≡ FilledAttr fill ty → IsAttrMade (tree_at m c) ty a
   filled_attr_at fill t ty a at data_is = subst (λ (x : ConstTree). IsAttrMade x ty a) (sym (filled_const_of m c fill t at)) (filled_attr fill (type_at (trees_of m).types t) ty a data_is)
 
-  pub placeholder_none : (number : ℕ) (t : LLVMType) (to : List ℕ → List ℕ) → slice_get m.consts c.0 ≡ Some (C.Placeholder number t) → attr_of to (tree_at m c) ≡ None
-  placeholder_none number t to at = ap (attr_of to) (placeholder_const_of m c number t at)
+  pub no_attr : (k : LLVMConstKind) (to : List ℕ → List ℕ) → IsModule m → slice_get m.consts c.0 ≡ Some k → attr_of to (const_tree (trees_of m).types (trees_of m).consts k) ≡ None → attr_of to (tree_at m c) ≡ None
+  no_attr k to sound at none = ap (attr_of to) (tree_of m c k sound at) ∙ none
+
+  pub no_kind : (k : LLVMConstKind) → IsModule m → slice_get m.consts c.0 ≡ Some k → kind_for (const_tree (trees_of m).types (trees_of m).consts k) ≡ None → kind_for (tree_at m c) ≡ None
+  no_kind k sound at none = ap kind_for (tree_of m c k sound at) ∙ none
 
 -- a type that stands for that of the constant is that of its tree
 made_type : (m : Module) (given : List Named) (ks : List TypeKind) (c : LLVMConst) (k : LLVMConstKind) (ty : TypeHandle) → IsModule m → slice_get m.consts c.0 ≡ Some k → StandsFor m given ks (type_number m c) ty → at.type_at (type_trees ks) ty ≡ renamed (called given) (const_type (tree_at m c))
@@ -124,6 +131,9 @@ made_type m given ks c k ty sound at stands =
 attr_holds : (given : List Named) (c : ConstTree) (a : AttrTree) → attr_of (called given) c ≡ Some a → (setting : Setting) (block : List ℕ → ℕ → ℕ) → attr_term setting a ≡ rename (record { block = block; struct = called given }) (const_term setting c)
 attr_holds given (IntConst width value) a is setting block = ap (attr_term setting) (sym (same_Some (IntegerAttr (IntType width) value) a is))
 attr_holds given (FilledConst fill t) a is setting block = ap (attr_term setting) (sym (same_Some (FilledAttr fill (renamed (called given) t)) a is)) ∙ sym (filled_under (record { block = block; struct = called given }) fill t)
+attr_holds given (BytesConst bytes) a is setting block = cc
+attr_holds given (ListConst t elements) a is setting block = cc
+attr_holds given (SplatConst t element) a is setting block = cc
 attr_holds given (PlaceholderConst number t) a is setting block = cc
 
 -- what is made of the type that stands for the constant's is the constant's attribute
@@ -181,7 +191,7 @@ filled_op fill t ty = record {
 }
 
 module _ (m : Module) (c : LLVMConst) where
-  pub int_op_at : (t : LLVMType) (value : ℕ) (ty : TypeHandle) → IsModule m → slice_get m.consts c.0 ≡ Some (C.Int t value) → IsConstOver m.types (C.Int t value) → IsKindFor (tree_at m c) ty (K.Constant (A.Integer ty value))
+  pub int_op_at : (t : LLVMType) (value : ℕ) (ty : TypeHandle) → IsModule m → slice_get m.consts c.0 ≡ Some (C.Int t value) → IsConstIn m (C.Int t value) → IsKindFor (tree_at m c) ty (K.Constant (A.Integer ty value))
   int_op_at t value ty sound at (width, typed, fits) = subst (λ (x : ConstTree). IsKindFor x ty (K.Constant (A.Integer ty value))) (sym (int_at m c t value width sound at typed)) (int_op width value ty)
 
   pub filled_op_at : (fill : Fill) (t : LLVMType) (ty : TypeHandle) → slice_get m.consts c.0 ≡ Some (C.Filled fill t) → IsKindFor (tree_at m c) ty (K.Filled fill)

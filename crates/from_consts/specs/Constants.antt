@@ -7,7 +7,7 @@ use Rattle.llvm_core.specs.declared.numbers.LLVMConst.{LLVMConst}
 use Rattle.llvm_core.specs.declared.numbers.LLVMType.{LLVMType}
 use Rattle.llvm_core.specs.Module.{Module}
 use Rattle.llvm_core.specs.Parts as numbers
-use Rattle.llvm_core.specs.Data.{ConstTree, IntConst, FilledConst, PlaceholderConst, const_at, const_type, trees_of}
+use Rattle.llvm_core.specs.Data.{ConstTree, IntConst, FilledConst, BytesConst, ListConst, SplatConst, PlaceholderConst, const_at, const_type, trees_of}
 use Rattle.dialect_types.specs.declared.types.TypeHandle.{TypeHandle}
 use Rattle.dialect_types.specs.declared.types.TypeKind.{TypeKind}
 use Rattle.dialect_types.specs.Legalised.{Named}
@@ -49,10 +49,14 @@ IsInConst m c u = IsWithin m u (type_number m c)
 
 -- ---- attributes
 
--- The attribute of a constant, where structs are called so; a placeholder has none. A line for each kind.
+-- The attribute of a constant, where structs are called so; a placeholder has none, and bytes, lists and splats are not converted
+-- yet. A line for each kind.
 abbrev pub attr_of : (List ℕ → List ℕ) → ConstTree → Option AttrTree
 attr_of to (IntConst width value) = Some (IntegerAttr (IntType width) value)
 attr_of to (FilledConst fill t) = Some (FilledAttr fill (renamed to t))
+attr_of to (BytesConst bytes) = None
+attr_of to (ListConst t elements) = None
+attr_of to (SplatConst t element) = None
 attr_of to (PlaceholderConst number t) = None
 
 -- it is the constant's attribute, has its term and keeps the rules of constants, and its type stands for that of the constant
@@ -67,10 +71,14 @@ pub record IsAttrFor (m : Module) (given : List Named) (ks : List TypeKind) (c :
 
 -- ---- operations
 
--- what the operation of a constant holds; a placeholder has none. A line for each kind.
+-- what the operation of a constant holds; a placeholder has none, and bytes, lists and splats are not converted yet. A line for each
+-- kind.
 abbrev pub kind_for : ConstTree → Option Kind
 kind_for (IntConst width value) = Some (ConstantOp (IntegerAttr (IntType width) value))
 kind_for (FilledConst fill t) = Some (FilledOp fill)
+kind_for (BytesConst bytes) = None
+kind_for (ListConst t elements) = None
+kind_for (SplatConst t element) = None
 kind_for (PlaceholderConst number t) = None
 
 -- The operation is that of the constant: it takes nothing and leads nowhere, its result has the constant's type, and in a run it

@@ -1,6 +1,6 @@
 -- What the steps of a conversion have made: the kind of a type before it has a number, the fields of a struct before it is made, and
 -- an attribute or a kind of operation before its type is known to stand for the constant's.
-use Rattle.std.specs.Prelude.{◌≡◌, ◌<◌, ℕ, IsTrue, true, false, List, Option, Some, None, All, IfSome, length, slice_get}
+use Rattle.std.specs.Prelude.{◌≡◌, ◌<◌, ◌≤◌, ℕ, IsTrue, true, false, List, Option, Some, None, All, IfSome, length, slice_get}
 use Rattle.std.specs.Option.{option_map}
 use Rattle.kinds.specs.declared.types.OtherType.{OtherType}
 use Rattle.kinds.specs.Types.{TypeTree, shape, types_list}
@@ -13,7 +13,7 @@ use Rattle.llvm_core.specs.declared.structs.StructFields.{StructFields as Source
 use Rattle.llvm_core.specs.declared.types.LLVMTypeKind.TheVariants as T
 use Rattle.llvm_core.specs.Module.{Module}
 use Rattle.llvm_core.specs.Data as L
-use Rattle.llvm_core.specs.Data.{ConstTree, const_type, trees_of}
+use Rattle.llvm_core.specs.Data.{ConstTree, IntConst, FilledConst, BytesConst, ListConst, SplatConst, PlaceholderConst, const_type, trees_of}
 use Rattle.dialect_types.specs.declared.types.StructFields.{StructFields}
 use Rattle.dialect_types.specs.declared.types.TypeHandle.{TypeHandle}
 use Rattle.dialect_types.specs.declared.types.TypeKind.{TypeKind}
@@ -64,3 +64,12 @@ pub record IsKindFor (c : ConstTree) (ty : TypeHandle) (kind : OpKind) : Type 0 
   pub plain : IsTrue (is_plain kind)
   pub types : (n : ℕ) → ty.0 < n → HasKindTypesBelow n kind
   pub stands : (ts : List TypeTree) (given : List Named) (op : OpRef) → type_at ts ty ≡ renamed (called given) (const_type c) → (o : DialectOp) × (op_of ts op (op_data kind ty) ≡ Some o) × IsOpFor given c o
+
+-- an integer has at most 64 bits; of another constant nothing is asked
+abbrev pub IsShortInt : ConstTree → Type 0
+IsShortInt (IntConst w v) = w ≤ 64
+IsShortInt (FilledConst fill t) = Unit {0}
+IsShortInt (BytesConst bytes) = Unit {0}
+IsShortInt (ListConst t elements) = Unit {0}
+IsShortInt (SplatConst t element) = Unit {0}
+IsShortInt (PlaceholderConst n t) = Unit {0}

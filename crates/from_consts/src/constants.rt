@@ -3,15 +3,14 @@
 ghost use Rattle.std.specs.Prelude.{◌≡◌, ◌<◌, ◌≤◌, ◌++◌, ◌∷◌, [], ℕ, true, IfErr, IfOk, IfSome, List, None, Ok, OnErr, OnOk, Some, length, slice_get};
 ghost use Rattle.kinds.specs.Held.{deepest as depth};
 ghost use Rattle.llvm_core.specs.declared.types.LLVMTypeKind.TheVariants as types_of;
-ghost use Rattle.llvm_core.specs.Data.{IntConst, PlaceholderConst, TypeTree};
+ghost use Rattle.llvm_core.specs.Data.{IntConst};
 ghost use Rattle.llvm_core.specs.Depths.{nests_at};
-ghost use Rattle.llvm_core.specs.Form.{IsShortConst};
 ghost use Rattle.llvm_core.specs.Sound.{IsModule};
 ghost use Rattle.dialect_types.specs.Trees.{structs_of};
 ghost use Rattle.dialect_core.specs.declared.numbers.OpRef.{OpRef};
 ghost use Rattle.dialect_core.specs.declared.ops.Value.TheVariants as values;
-ghost use Rattle.from_consts.specs.Constants.{attr_of, tree_at, type_number, AddsOp, IsAttrFor, IsConstCause, IsInConst};
-ghost use Rattle.from_consts.specs.Steps.{IsAttrMade, IsKindFor};
+ghost use Rattle.from_consts.specs.Constants.{attr_of, kind_for, tree_at, type_number, AddsOp, IsAttrFor, IsConstCause, IsInConst};
+ghost use Rattle.from_consts.specs.Steps.{IsAttrMade, IsKindFor, IsShortInt};
 ghost use Rattle.from_consts.specs.Given.{Gives, IsContextFor, StandsFor};
 ghost use Rattle.from_consts.specs.declared.conversion_err.ConversionErr.TheVariants as errors;
 
@@ -50,12 +49,15 @@ fn short_width(module: &LLVMModule, ty: LLVMType) -> Result<(), ConversionErr>
 fn short_const(module: &LLVMModule, c: LLVMConst) -> Result<(), ConversionErr>
     requires within { c.0 < length «module».now.consts }
     requires sound { IsModule «module».now }
-    ensures ok { OnOk result (IsShortConst (tree_at «module».now c)) }
+    ensures ok { OnOk result (IsShortInt (tree_at «module».now c)) }
     ensures err { IfErr result (λ e. (width : ℕ) × (value : ℕ) × (tree_at «module».now c ≡ IntConst width value) × (64 < width) × (e ≡ errors.IntConstTooWide width)) }
 {
     match module.const_kind(c) {
         LLVMConstKind::Int(ty, _) => short_width(module, *ty),
         LLVMConstKind::Filled(..) => Ok(()),
+        LLVMConstKind::Bytes(..) => Ok(()),
+        LLVMConstKind::List(..) => Ok(()),
+        LLVMConstKind::Splat(..) => Ok(()),
         LLVMConstKind::Placeholder(..) => Ok(()),
     }
 }
@@ -72,7 +74,7 @@ fn const_type<'a>(
     requires context { IsContextFor «module».now ctx.old.types cctx.old }
     ensures sound { IsModule «module».now }
     ensures stands { IfOk result (StandsFor «module».now cctx.new.names ctx.new.types (type_number «module».now c)) }
-    ensures short { OnOk result (IsShortConst (tree_at «module».now c)) }
+    ensures short { OnOk result (IsShortInt (tree_at «module».now c)) }
     ensures gives { Gives «module».now (IsInConst «module».now c) ctx.old cctx.old ctx.new cctx.new }
     ensures cause { IfErr result (IsConstCause «module».now c (structs_of ctx.old.types) cctx.new.names) }
 {
@@ -87,18 +89,21 @@ fn const_type<'a>(
 fn attr_for(module: &LLVMModule, c: LLVMConst, ty: TypeHandle) -> Option<ConstAttr>
     requires sound { IsModule «module».now }
     requires within { c.0 < length «module».now.consts }
-    requires short { IsShortConst (tree_at «module».now c) }
+    requires short { IsShortInt (tree_at «module».now c) }
     ensures some { IfSome result (IsAttrMade (tree_at «module».now c) ty) }
     ensures none { result ≡ None → (to : List ℕ → List ℕ) → attr_of to (tree_at «module».now c) ≡ None }
 {
     match module.const_kind(c) {
         LLVMConstKind::Int(_, value) => Some(ConstAttr::Integer(ty, *value as u64)),
         LLVMConstKind::Filled(fill, _) => Some(ConstAttr::filled(*fill, ty)),
+        LLVMConstKind::Bytes(..) => None,
+        LLVMConstKind::List(..) => None,
+        LLVMConstKind::Splat(..) => None,
         LLVMConstKind::Placeholder(..) => None,
     }
 }
 
-/// The attribute that stands for a constant; none for a placeholder, which has none. Its type nests no deeper than is allowed, as
+/// The attribute that stands for a constant; none for a placeholder, which has none, and none yet for bytes, lists and splats. Its type nests no deeper than is allowed, as
 /// each type in use of a checked module does. After a refusal the context may hold more types, and more names and types may have
 /// been given.
 /// Refuses an integer of more than 64 bits, `IntConstTooWide`, and a constant of a type that `convert_type` refuses.
@@ -124,18 +129,21 @@ pub fn const_to_attr<'a>(
 fn op_kind(module: &LLVMModule, c: LLVMConst, ty: TypeHandle) -> OpKind
     requires sound { IsModule «module».now }
     requires within { c.0 < length «module».now.consts }
-    requires there { (number : ℕ) → (t : TypeTree) → ¬ (tree_at «module».now c ≡ PlaceholderConst number t) }
-    requires short { IsShortConst (tree_at «module».now c) }
+    requires there { ¬ (kind_for (tree_at «module».now c) ≡ None) }
+    requires short { IsShortInt (tree_at «module».now c) }
     ensures { IsKindFor (tree_at «module».now c) ty result }
 {
     match module.const_kind(c) {
         LLVMConstKind::Int(_, value) => OpKind::Constant(ConstAttr::Integer(ty, *value as u64)),
         LLVMConstKind::Filled(fill, _) => OpKind::Filled(*fill),
+        LLVMConstKind::Bytes(..) => unreachable!(),
+        LLVMConstKind::List(..) => unreachable!(),
+        LLVMConstKind::Splat(..) => unreachable!(),
         LLVMConstKind::Placeholder(..) => unreachable!(),
     }
 }
 
-/// Appends the operations that stand for a constant, which is no placeholder: silent ones, in no block, of which the last has the
+/// Appends the operations that stand for a constant, which is no placeholder, and no bytes, list or splat yet: silent ones, in no block, of which the last has the
 /// value that is answered. After a refusal the context may hold more types, and more names and types may have been given.
 /// Refuses what `const_to_attr` refuses.
 pub fn const_to_ops<'a>(
@@ -146,7 +154,7 @@ pub fn const_to_ops<'a>(
     ops: &mut Vec<OpRef>,
 ) -> Result<Value, ConversionErr>
     requires within { c.0 < length «module».now.consts }
-    requires there { (number : ℕ) → (t : TypeTree) → ¬ (tree_at «module».now c ≡ PlaceholderConst number t) }
+    requires there { ¬ (kind_for (tree_at «module».now c) ≡ None) }
     requires nested { nests_at «module».now (type_number «module».now c) depth ≡ true }
     requires context { IsContextFor «module».now ctx.old.types cctx.old }
     ensures ok { IfOk result (λ v. (op : OpRef) × (v ≡ values.Result op) × (ops.new.items ≡ ops.old.items ++ op ∷ []) × AddsOp «module».now c ctx.old cctx.old ctx.new cctx.new op) }

@@ -6,15 +6,17 @@ use Rattle.support.proofs.ListLaws.{slice_get-behind}
 use Rattle.support.proofs.OptionLaws.{part_of}
 use Rattle.llvm_core.specs.declared.numbers.LLVMType.{LLVMType}
 use Rattle.llvm_core.specs.declared.numbers.LLVMConst.{LLVMConst}
+use Rattle.llvm_core.specs.declared.consts.LLVMConstKind.{LLVMConstKind}
 use Rattle.llvm_core.specs.declared.consts.LLVMConstKind.TheVariants as C
 use Rattle.llvm_core.specs.declared.code.LLVMValue.TheVariants as V
 use Rattle.llvm_core.specs.Module.{Module}
 use Rattle.llvm_core.specs.Parts as parts
 use Rattle.llvm_core.specs.Sound.{IsModule}
+use Rattle.llvm_core.specs.Consts.{IsMadeBelow}
 use Rattle.llvm_core.specs.Form.{IsFormConst, IsHeldFunction, IsShortOperand, constant_type, constant_types, operands_of, value_types}
 use Rattle.llvm_core.specs.Data as L
-use Rattle.llvm_core.specs.Data.{ConstTree, IntConst, FilledConst, Placed, Function, trees_of, type_at, const_at, const_type, placed_in}
-use Rattle.llvm_core.proofs.DataLemmas.{within_at, int_const_of, filled_const_of, placeholder_const_of, const_type_of}
+use Rattle.llvm_core.specs.Data.{ConstTree, IntConst, FilledConst, Placed, Function, trees_of, type_at, const_at, const_tree, const_type, placed_in}
+use Rattle.llvm_core.proofs.DataLemmas.{within_at, int_const_of, filled_const_of, const_tree_of, const_type_of}
 use Rattle.kinds.specs.declared.fill.Fill.{Fill}
 use Rattle.kinds.specs.Held.{width_in, IsFirstClass, IsHeldResult}
 use Rattle.kinds.specs.Types.{params_of}
@@ -65,9 +67,9 @@ int_made m c t v ty at = subst (λ (x : ConstTree). IsMaking x ty (K.Constant (A
 pub filled_made : (m : Module) (c : LLVMConst) (fill : Fill) (t : LLVMType) (ty : TypeHandle) → slice_get m.consts c.0 ≡ Some (C.Filled fill t) → IsMaking (const_at (trees_of m).consts c) ty (K.Filled fill)
 filled_made m c fill t ty at = subst (λ (x : ConstTree). IsMaking x ty (K.Filled fill)) (sym (filled_const_of m c fill t at)) (filled_making fill (type_at (trees_of m).types t) ty)
 
--- a constant of the form is no placeholder
-pub no_placeholder : (m : Module) (c : LLVMConst) (n : ℕ) (t : LLVMType) → slice_get m.consts c.0 ≡ Some (C.Placeholder n t) → IsFormConst (const_at (trees_of m).consts c) → ⊥
-no_placeholder m c n t at h = subst IsFormConst (placeholder_const_of m c n t at) h
+-- a constant of the form is of the form as its kind
+pub form_kind : (m : Module) (c : LLVMConst) (k : LLVMConstKind) → IsMadeBelow c.0 k → slice_get m.consts c.0 ≡ Some k → IsFormConst (const_at (trees_of m).consts c) → IsFormConst (const_tree (trees_of m).types (trees_of m).consts k)
+form_kind m c k below at h = subst IsFormConst (const_tree_of m c k at below) h
 
 -- ---- their types
 

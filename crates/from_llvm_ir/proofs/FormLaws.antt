@@ -8,7 +8,7 @@ use Rattle.meaning.proofs.MatchedLaws.{matched_length, matched_at}
 use Rattle.support.proofs.ListLaws.{all_from, filter_from}
 use Rattle.llvm_core.specs.Form as LF
 use Rattle.llvm_core.specs.Data as L
-use Rattle.llvm_core.specs.Data.{ConstTree, IntConst, FilledConst, PlaceholderConst, Placed, const_type, targets}
+use Rattle.llvm_core.specs.Data.{ConstTree, IntConst, FilledConst, BytesConst, ListConst, SplatConst, PlaceholderConst, Placed, const_type, targets}
 use Rattle.dialect_types.specs.Trees.{TypeTree}
 use Rattle.dialect_core.specs.declared.ops.Value.{Value}
 use Rattle.dialect_core.specs.declared.ops.Successor.{Successor}
@@ -46,6 +46,9 @@ kind_tests (L.Applied r) κ h = (ap DF.is_constant_kind h, ap DF.is_terminator_k
 pub constant_tests : (c : ConstTree) (o : DialectOp) → IsConstantOp c o → (DF.is_constant o ≡ true) × (DF.is_terminator o ≡ false) × (o.successors ≡ []) × (o.operands ≡ [])
 constant_tests (IntConst w v) o h = (ap DF.is_constant h, ap DF.is_terminator h, ap (λ (x : DialectOp). x.successors) h, ap (λ (x : DialectOp). x.operands) h)
 constant_tests (FilledConst fill t) o h = (ap DF.is_constant h, ap DF.is_terminator h, ap (λ (x : DialectOp). x.successors) h, ap (λ (x : DialectOp). x.operands) h)
+constant_tests (BytesConst bytes) o h = elim h [ ]
+constant_tests (ListConst t cs) o h = elim h [ ]
+constant_tests (SplatConst t c) o h = elim h [ ]
 constant_tests (PlaceholderConst n t) o h = elim h [ ]
 
 -- of the width of what a row gives nothing is asked
@@ -89,6 +92,9 @@ module _ (n : Head) (k : Known) (cs : List DialectBlock) (h : IsWhole k cs) wher
     result = s.held;
     short = λ other. absurd (let no : ⊥ = cc (s.form, other) in no);
   })
+  constant_form (BytesConst bytes) o s m = elim m [ ]
+  constant_form (ListConst t cs) o s m = elim m [ ]
+  constant_form (SplatConst t c) o s m = elim m [ ]
   constant_form (PlaceholderConst q t) o s m = elim m [ ]
 
   -- a constant that has an operation is of a type that is translated

@@ -1,7 +1,7 @@
 -- The rows of hoisted constants: each sets its value to its constant's term, and leaves all others.
 use Rattle.std.proofs.Common.{ℕ, ◌≡◌, refl, sym, ap, ◌∙◌, Bool, true, false, ◌||◌, if◌then◌else◌, List, [], ◌∷◌, Some, map, slice_get, arith, eq-eqb, ne_eqb}
 use Rattle.std.proofs.lemmas.Option.{same_Some}
-use Rattle.llvm_core.specs.Data.{ConstTree, IntConst, FilledConst, PlaceholderConst}
+use Rattle.llvm_core.specs.Data.{ConstTree, IntConst, FilledConst, BytesConst, ListConst, SplatConst, PlaceholderConst}
 use Rattle.dialect_core.specs.declared.ops.Value.{Value}
 use Rattle.dialect_core.specs.declared.ops.Value.TheVariants as V
 use Rattle.dialect_core.specs.Data.{DialectOp, Func}
@@ -23,6 +23,9 @@ module _ (made : Setting) (G : Func) where
   pub holds : (source : Setting) (c : ConstTree) (o : DialectOp) → IsConstantOp c o → (dialect.row made G o).action ≡ Holds (const_term source c)
   holds source (IntConst w v) o m = ap (λ (x : DialectOp). dialect.action made G x x.kind) m
   holds source (FilledConst fill t) o m = ap (λ (x : DialectOp). dialect.action made G x x.kind) m
+  holds source (BytesConst bytes) o m = elim m [ ]
+  holds source (ListConst t cs) o m = elim m [ ]
+  holds source (SplatConst t c) o m = elim m [ ]
   holds source (PlaceholderConst n t) o m = elim m [ ]
 
   pub closed : (done : List (Row Value)) (cs : List ConstTree) (os : List DialectOp) → Matched IsConstantOp cs os → IsClosed done (rows_of os)

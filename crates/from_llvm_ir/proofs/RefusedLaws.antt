@@ -65,6 +65,13 @@ constant_typed f (L.Constant c) (suc k) t at = absurd (none-some t at)
 constant_typed f (L.Parameter g i) k t at = absurd (none-some t at)
 constant_typed f (L.Result n) k t at = absurd (none-some t at)
 
+-- an operand of an instruction of the form is one of the form
+operand_stands : (f : Function) (b : ℕ) (t : TypeTree) (i : L.Instruction) → LF.IsFormInstruction f b t i → (j : ℕ) (o : L.Operand) → slice_get (LF.operands_of i) j ≡ Some o → LF.IsOperandOf f o
+operand_stands f b t (L.Applied r) form j o at = within_at r.operands (LF.IsOperandOf f) form.operands j o at
+operand_stands f b t (L.Phi es) form j o at =
+    let e = get_from (λ (e : L.Operand × ℕ). e.0) es j o at in
+    subst (LF.IsOperandOf f) e.2 (within_at es (λ (e : L.Operand × ℕ). LF.IsOperand f t e.0) form.0 j e.0 e.1).stands
+
 module _ (f : Function) (form : IsFormFunction f) where
   record PlacedForm (p : Placed) : Type 0 where
     number : ℕ
@@ -105,6 +112,10 @@ module _ (d : L.ModuleData) (held : AreHeld d) (place : ℕ) (f : Function) (at 
       by None is = is
       by (Some of) is = absurd (held.types of (record { place = place; f = f; at = at; index = index; type = t; here = here; holds = refused_held d.structs t of is }))
 
+  -- an operand is one of the form
+  operand_formed : (index : ℕ) (p : Placed) → slice_get (placed_in f) index ≡ Some p → (j : ℕ) (o : L.Operand) → slice_get (LF.operands_of p.instruction) j ≡ Some o → LF.IsOperandOf f o
+  operand_formed index p here j o used = let b = placed_form f form index p here in operand_stands f b.number p.type p.instruction b.is.instruction j o used
+
   -- nor is a constant too wide
   operand_short : (index : ℕ) (p : Placed) → slice_get (placed_in f) index ≡ Some p → (j : ℕ) (o : L.Operand) → slice_get (LF.operands_of p.instruction) j ≡ Some o → IsShortOperand o
   operand_short index p here j (L.Constant (L.IntConst w v)) used = by (nat_le w 64) refl
@@ -113,6 +124,9 @@ module _ (d : L.ModuleData) (held : AreHeld d) (place : ℕ) (f : Function) (at 
       by true e = leb-true w 64 e
       by false e = absurd (held.constants w (record { place = place; f = f; at = at; index = index; p = p; here = here; operand = j; value = v; used = used; wide = leb-false w 64 e }))
   operand_short index p here j (L.Constant (L.FilledConst fill t)) used = tt
+  operand_short index p here j (L.Constant (L.BytesConst bytes)) used = tt
+  operand_short index p here j (L.Constant (L.ListConst t cs)) used = absurd (operand_formed index p here j (L.Constant (L.ListConst t cs)) used)
+  operand_short index p here j (L.Constant (L.SplatConst t c)) used = absurd (operand_formed index p here j (L.Constant (L.SplatConst t c)) used)
   operand_short index p here j (L.Constant (L.PlaceholderConst n t)) used = tt
   operand_short index p here j (L.Parameter g i) used = tt
   operand_short index p here j (L.Result n) used = tt

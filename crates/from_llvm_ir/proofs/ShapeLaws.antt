@@ -143,6 +143,9 @@ module _ (source made : Setting) (n : Head) (k : Known) (cs : List DialectBlock)
   constant_stays : (c : ConstTree) → rename match (Llvm.const_term source c) ≡ Llvm.const_term source c
   constant_stays (L.IntConst w v) = refl
   constant_stays (L.FilledConst fill t) = filled_under match fill t ∙ ap (filled_term fill) (names_stay match named t)
+  constant_stays (L.BytesConst bytes) = refl
+  constant_stays (L.ListConst t cs) = refl
+  constant_stays (L.SplatConst t c) = refl
   constant_stays (L.PlaceholderConst q t) = refl
 
   hoisted_apart : (i j : ℕ) (x y : DialectOp) → slice_get k.hoisted i ≡ Some x → slice_get k.hoisted j ≡ Some y → x.number ≡ y.number → i ≡ j

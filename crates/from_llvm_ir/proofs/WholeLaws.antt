@@ -6,7 +6,7 @@ use Rattle.std.proofs.lemmas.List.{get_or_past}
 use Rattle.std.proofs.lemmas.Option.{slice_get_within, slice_get_past, get_or_from_slice_get}
 use Rattle.support.proofs.ListLaws.{item_there}
 use Rattle.llvm_core.specs.Data as L
-use Rattle.llvm_core.specs.Data.{ConstTree, IntConst, FilledConst, PlaceholderConst}
+use Rattle.llvm_core.specs.Data.{ConstTree, IntConst, FilledConst, BytesConst, ListConst, SplatConst, PlaceholderConst}
 use Rattle.dialect_types.specs.Names.{IsIdentifier}
 use Rattle.dialect_types.specs.Legalised.{Gave}
 use Rattle.dialect_core.specs.Data.{DialectOp, DialectBlock}
@@ -30,6 +30,9 @@ use Rattle.from_llvm_ir.proofs.ShapeLaws.{shape_of}
 makes : (c : ConstTree) (o : DialectOp) → IsConstantOp c o → Makes c o
 makes (IntConst w v) o h = (ap (λ (x : DialectOp). x.kind) h, ap (λ (x : DialectOp). x.name) h)
 makes (FilledConst fill t) o h = (ap (λ (x : DialectOp). x.kind) h, ap (λ (x : DialectOp). x.result) h, ap (λ (x : DialectOp). x.name) h)
+makes (BytesConst bytes) o h = elim h [ ]
+makes (ListConst t cs) o h = elim h [ ]
+makes (SplatConst t c) o h = elim h [ ]
 makes (PlaceholderConst n t) o h = elim h [ ]
 
 module _ (d : L.ModuleData) (n : Head) (k : Known) (cs : List DialectBlock) (h : IsWhole k cs) (x : FunctionBlocks) (inverse : IsInverse k.frame.order x.places) (p : IsPlaces (length k.frame.source.blocks) x.places) where

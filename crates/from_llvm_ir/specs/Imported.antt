@@ -7,7 +7,7 @@ use Rattle.llvm_core.specs.Data as L
 use Rattle.llvm_core.specs.declared.numbers.LLVMInstRef.{LLVMInstRef}
 use Rattle.llvm_core.specs.declared.code.LLVMValue.{LLVMValue}
 use Rattle.llvm_core.specs.declared.code.LLVMValue.TheVariants as V
-use Rattle.llvm_core.specs.Data.{ConstTree, IntConst, FilledConst, PlaceholderConst, Placed, targets, phi_entries, placed_in}
+use Rattle.llvm_core.specs.Data.{ConstTree, IntConst, FilledConst, BytesConst, ListConst, SplatConst, PlaceholderConst, Placed, targets, phi_entries, placed_in}
 use Rattle.llvm_core.specs.Form.{is_phi}
 use Rattle.dialect_types.specs.Legalised.{Named, Gave, IsLegalised}
 use Rattle.dialect_types.specs.Trees.{IntType}
@@ -75,6 +75,9 @@ pub data FirstUses {A : Type 0} : (uses firsts : List A) → Type 0 where
 abbrev pub Makes : ConstTree → DialectOp → Type 0
 Makes (IntConst w v) o = (o.kind ≡ ConstantOp (IntegerAttr (IntType w) v)) × (o.name ≡ None)
 Makes (FilledConst fill type) o = (o.kind ≡ FilledOp fill) × (o.result ≡ Some type) × (o.name ≡ None)
+Makes (BytesConst bytes) o = ⊥
+Makes (ListConst type elements) o = ⊥
+Makes (SplatConst type element) o = ⊥
 Makes (PlaceholderConst n type) o = ⊥
 
 -- ---- functions

@@ -5,7 +5,7 @@ use Rattle.support.specs.Interned.{IsDistinctList}
 use Rattle.llvm_core.specs.Module.{Module}
 use Rattle.llvm_core.specs.Parts.{IsValue}
 use Rattle.llvm_core.specs.Data as L
-use Rattle.llvm_core.specs.Data.{ConstTree, IntConst, FilledConst, PlaceholderConst, Placed, const_type, trees_of, operand_of}
+use Rattle.llvm_core.specs.Data.{ConstTree, IntConst, FilledConst, BytesConst, ListConst, SplatConst, PlaceholderConst, Placed, const_type, trees_of, operand_of}
 use Rattle.llvm_core.specs.Form.{IsFormConst, IsShortConst}
 use Rattle.kinds.specs.Held.{IsHeld}
 use Rattle.dialect_types.specs.declared.types.TypeHandle.{TypeHandle}
@@ -83,6 +83,9 @@ pub record Notes (m : Module) (values : Values) (k : Known) : Type 0 where
 abbrev pub IsConstantOp : ConstTree → DialectOp → Type 0
 IsConstantOp (IntConst w v) o = o ≡ new_op o.number None (ConstantOp (IntegerAttr (IntType w) v)) [] [] (Some (IntType w))
 IsConstantOp (FilledConst fill type) o = o ≡ new_op o.number None (FilledOp fill) [] [] (Some type)
+IsConstantOp (BytesConst bytes) o = ⊥
+IsConstantOp (ListConst type elements) o = ⊥
+IsConstantOp (SplatConst type element) o = ⊥
 IsConstantOp (PlaceholderConst n type) o = ⊥
 
 -- an operation of that kind makes the constant, where the type of its result is that of the constant

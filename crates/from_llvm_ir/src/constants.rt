@@ -43,6 +43,9 @@ fn constant_kind(source: &Source<'_>, c: LLVMConst, ty: TypeHandle) -> OpKind
     match source.const_kind(c) {
         LLVMConstKind::Int(_, value) => OpKind::Constant(ConstAttr::Integer(ty, *value as u64)),
         LLVMConstKind::Filled(fill, _) => OpKind::Filled(*fill),
+        LLVMConstKind::Bytes(..) => unreachable!(),
+        LLVMConstKind::List(..) => unreachable!(),
+        LLVMConstKind::Splat(..) => unreachable!(),
         LLVMConstKind::Placeholder(..) => unreachable!(),
     }
 }

@@ -7,7 +7,6 @@ use Rattle.std.proofs.lemmas.Bool.{ltb-true, ltb-false}
 use Rattle.std.proofs.lemmas.List.Elements.{All-head, All-tail}
 use Rattle.std.proofs.lemmas.Option.{same_Some, slice_get-map, slice_get_within}
 use Rattle.support.proofs.ListLaws.{item_there, slice_get-behind, slice_get-behind_cases, slice_get-kept, in_joined, from_joined}
-use Rattle.kinds.specs.declared.types.OtherType.{OtherType}
 use Rattle.kinds.specs.Types.{TypeTree, TypeTrees, NoTypes, ThenType, RefusedType, NamedType, FunctionType, result_of, params_of, types_list}
 use Rattle.kinds.specs.Held.{deepest}
 use Rattle.kinds.specs.Structs.{Holds, IsNested, each_type, nests}

@@ -16,18 +16,18 @@ use Rattle.llvm_core.specs.declared.consts.LLVMConstKind.{LLVMConstKind}
 use Rattle.llvm_core.specs.declared.consts.LLVMConstKind.TheVariants as C
 use Rattle.llvm_core.specs.declared.code.LLVMValue.{LLVMValue}
 use Rattle.llvm_core.specs.declared.code.LLVMValue.TheVariants as V
-use Rattle.llvm_core.specs.declared.code.InstData.{InstData}
 use Rattle.llvm_core.specs.Module.{Module}
+use Rattle.llvm_core.specs.Consts.{IsMadeBelow}
 use Rattle.llvm_core.specs.Parts.{operands}
 use Rattle.llvm_core.specs.Sound.{IsModule}
-use Rattle.llvm_core.specs.Data.{Operand, Constant, ConstTree, IntConst, Placed, Function, data_of, trees_of, const_at, operand_of, placed_in}
-use Rattle.llvm_core.specs.Form.{IsShortConst, IsShortOperand, operands_of}
-use Rattle.llvm_core.proofs.DataLemmas.{function_at, int_tree_of, int_const_of, filled_const_of, placeholder_const_of, within_at}
+use Rattle.llvm_core.specs.Data.{Operand, Constant, IntConst, Placed, Function, data_of, trees_of, const_at, const_tree, operand_of, placed_in}
+use Rattle.llvm_core.specs.Form.{operands_of}
+use Rattle.llvm_core.proofs.DataLemmas.{function_at, int_tree_of, int_const_of, const_tree_of, within_at}
 use Rattle.llvm_core.proofs.DistinctLaws.{function_from}
 use Rattle.llvm_core.proofs.FormNested.{same_operands}
 use Rattle.llvm_core.proofs.FormPlaces.{shown, own_inst}
 use Rattle.held_types.specs.Held.{HasWideConst}
-use Rattle.held_types.specs.Wide.{HasWide, IsShortValue, IsWideValue, UsesShort, UsesWide}
+use Rattle.held_types.specs.Wide.{IsShortAlone, IsShortUsed, IsShortValue, IsWideValue, UsesShort, UsesWide}
 use Rattle.held_types.proofs.PlacedLaws.{inst_placed}
 
 -- one more item of a list
@@ -42,7 +42,7 @@ module _ (m : Module) (c : LLVMConst) where
   int_is t value width sound at typed = int_const_of m c t value at ∙ ap (λ (τ : TypeTree). IntConst (width_in τ) value) (int_tree_of m t width sound typed)
 
   pub int_short : (t : LLVMType) (value width : ℕ) → IsModule m → slice_get m.consts c.0 ≡ Some (C.Int t value) → slice_get m.types t.0 ≡ Some (T.Int width) → width ≤ 64 → IsShortValue m (V.Const c)
-  int_short t value width sound at typed small = subst IsShortConst (sym (int_is t value width sound at typed)) small
+  int_short t value width sound at typed small = subst IsShortAlone (sym (int_is t value width sound at typed)) small
 
   pub int_wide : (t : LLVMType) (value width : ℕ) → IsModule m → slice_get m.consts c.0 ≡ Some (C.Int t value) → slice_get m.types t.0 ≡ Some (T.Int width) → 64 < width → IsWideValue m width (V.Const c)
   int_wide t value width sound at typed wide = (value, ap Constant (int_is t value width sound at typed), wide)
@@ -63,10 +63,16 @@ module _ (m : Module) (c : LLVMConst) where
       by false e = tt
 
   -- what is no integer is not wide
-  pub other_short : (k : LLVMConstKind) → slice_get m.consts c.0 ≡ Some k → ((t : LLVMType) (value : ℕ) → k ≢ C.Int t value) → IsShortValue m (V.Const c)
-  other_short (C.Int t value) at other = absurd (other t value refl)
-  other_short (C.Filled fill t) at other = subst IsShortConst (sym (filled_const_of m c fill t at)) tt
-  other_short (C.Placeholder number t) at other = subst IsShortConst (sym (placeholder_const_of m c number t at)) tt
+  pub other_short : (k : LLVMConstKind) → slice_get m.consts c.0 ≡ Some k → IsMadeBelow c.0 k → ((t : LLVMType) (value : ℕ) → k ≢ C.Int t value) → IsShortValue m (V.Const c)
+  other_short k at below other = subst IsShortAlone (sym (const_tree_of m c k at below)) (by k other)
+    where
+      by : (k : LLVMConstKind) → ((t : LLVMType) (value : ℕ) → k ≢ C.Int t value) → IsShortAlone (const_tree (trees_of m).types (trees_of m).consts k)
+      by (C.Int t value) other = absurd (other t value refl)
+      by (C.Filled fill t) other = tt
+      by (C.Bytes t bytes) other = tt
+      by (C.List t elements) other = tt
+      by (C.Splat t element) other = tt
+      by (C.Placeholder number t) other = tt
 
 -- ---- in the data
 
@@ -101,6 +107,6 @@ module _ (m : Module) (sound : IsModule m) where
       let listed : slice_get (map shown_of (operands z.inst)) h.operand ≡ Some (Constant (IntConst width h.value)) = ap (λ (os : List Operand). slice_get os h.operand) (sym used) ∙ h.used in
       let v = part_of shown_of (slice_get (operands z.inst) h.operand) (Constant (IntConst width h.value)) (sym (slice_get-map shown_of (operands z.inst) h.operand) ∙ listed) in
       let short = within_at (operands z.inst) (IsShortValue m) (each own.number (slice_get_within m.insts own.number z own.here) z own.here) h.operand v.0 v.1.0 in
-      let small : width ≤ 64 = subst IsShortOperand v.1.1 short in
+      let small : width ≤ 64 = subst IsShortUsed v.1.1 short in
       let wide = h.wide in
       omega (arith, small, wide)

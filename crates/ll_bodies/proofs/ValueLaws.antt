@@ -125,14 +125,17 @@ real_const m s c lt e = by (item_there m.consts c lt).0 (item_there m.consts c l
   where
     by : (k : LLVMConstKind) → slice_get m.consts c ≡ Some k → ⊥
     by (C.Int t v) at =
-        let told = const_tree_of m (record { 0 = c }) (C.Int t v) at in
+        let told = const_tree_of m (record { 0 = c }) (C.Int t v) at tt in
         let w = s.consts c (C.Int t v) at in
         let int = ap (λ (τ : TypeTree). IntConst (width_in τ) v) (int_tree_of m t w.0 s w.1) in
         let none : IntConst w.0 v ≡ no_const = sym int ∙ sym told ∙ e in
         let zero : w.0 ≡ 0 = cc (none) in
         absurd (omega (arith, zero, (s.types t.0 (T.Int w.0) w.1).0))
-    by (C.Filled fill t) at = let told = const_tree_of m (record { 0 = c }) (C.Filled fill t) at in absurd (cc (told, e))
-    by (C.Placeholder number t) at = let told = const_tree_of m (record { 0 = c }) (C.Placeholder number t) at in absurd (cc (told, e))
+    by (C.Filled fill t) at = let told = const_tree_of m (record { 0 = c }) (C.Filled fill t) at tt in absurd (cc (told, e))
+    by (C.Bytes t bytes) at = let told = const_tree_of m (record { 0 = c }) (C.Bytes t bytes) at tt in absurd (cc (told, e))
+    by (C.List t elements) at = let told = const_tree_of m (record { 0 = c }) (C.List t elements) at (s.consts_below c (C.List t elements) at) in absurd (cc (told, e))
+    by (C.Splat t element) at = let told = const_tree_of m (record { 0 = c }) (C.Splat t element) at (s.consts_below c (C.Splat t element) at) in absurd (cc (told, e))
+    by (C.Placeholder number t) at = let told = const_tree_of m (record { 0 = c }) (C.Placeholder number t) at tt in absurd (cc (told, e))
 
 -- a constant that reads as one that is there is there
 pub const_there : (m : Module) (s : IsModule m) (a b : LLVMConst) → a.0 < length m.consts → const_at (trees_of m).consts a ≡ const_at (trees_of m).consts b → b.0 < length m.consts

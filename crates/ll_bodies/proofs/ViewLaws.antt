@@ -11,6 +11,7 @@ use Rattle.llvm_core.specs.Module.{Module}
 use Rattle.llvm_core.specs.Sound.{IsModule}
 use Rattle.llvm_core.specs.Data.{ConstTree, trees_of, type_trees, const_trees, type_at, const_at}
 use Rattle.llvm_core.proofs.TreeLemmas.{type_at-kept, const_trees-retyped}
+use Rattle.llvm_core.proofs.WithinLemmas.{const_types_within}
 use Rattle.ll_lines.specs.declared.lines.Said.{Said}
 use Rattle.ll_lines.specs.declared.lines.Said.TheVariants as S
 use Rattle.ll_lines.specs.declared.lines.Typed.{Typed}
@@ -40,7 +41,7 @@ module _ (bytes : List ℕ) (m n : Module) (g : Keeps m n) (s : IsModule m) wher
   const_same c =
       ap (λ (cs : List LLVMConstKind). const_at (const_trees (type_trees n.types) cs) c) g.consts
       ∙ ap (λ (ts : List LLVMTypeKind). const_at (const_trees (type_trees ts) m.consts) c) g.types
-      ∙ ap (λ (xs : List ConstTree). const_at xs c) (const_trees-retyped m.types g.more m.consts s.consts)
+      ∙ ap (λ (xs : List ConstTree). const_at xs c) (const_trees-retyped m.types g.more m.consts (const_types_within m s))
 
   said_same : (x : Said) → IsSaidIn m x → said_view bytes (trees_of n) x ≡ said_view bytes (trees_of m) x
   said_same (S.Local k) h = refl

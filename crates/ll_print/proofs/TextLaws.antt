@@ -15,6 +15,7 @@ use Rattle.llvm_core.specs.declared.types.LLVMTypeKind.TheVariants as T
 use Rattle.llvm_core.specs.declared.consts.LLVMConstKind.TheVariants as C
 use Rattle.llvm_core.specs.Module.{Module}
 use Rattle.llvm_core.specs.Sound.{IsModule}
+use Rattle.llvm_core.specs.Consts.{IsMadeBelow}
 use Rattle.llvm_core.specs.Parts.{shape_of, const_type as kind_type}
 use Rattle.llvm_core.specs.Data.{TypeTree, type_at, type_tree, const_at, trees_of, const_type}
 use Rattle.kinds.specs.declared.fill.Fill.{Fill}
@@ -23,7 +24,7 @@ use Rattle.kinds.specs.Fitting.{is_pointer}
 use Rattle.kinds.specs.Types.{shape}
 use Rattle.kinds.specs.Held.{width_in}
 use Rattle.llvm_core.proofs.RuleLaws.{shape_kept}
-use Rattle.llvm_core.proofs.DataLemmas.{type_tree_of, int_tree_of, int_const_of, filled_const_of, placeholder_const_of, const_type_of}
+use Rattle.llvm_core.proofs.DataLemmas.{type_tree_of, int_tree_of, int_const_of, filled_const_of, placeholder_const_of, const_tree_of, const_type_of}
 use Rattle.ll_print.specs.Printing.{type_text, int_text, filled_text, const_text}
 use Rattle.ll_print.proofs.PartLaws.{read_item}
 
@@ -69,6 +70,16 @@ const_text-filled m c fill t at = ap const_text (filled_const_of m c fill t at)
 
 pub const_text-placeholder : (m : Module) (c : LLVMConst) (number : ℕ) (t : LLVMType) → slice_get m.consts c.0 ≡ Some (C.Placeholder number t) → const_text (const_at (trees_of m).consts c) ≡ []
 const_text-placeholder m c number t at = ap const_text (placeholder_const_of m c number t at)
+
+-- bytes, lists and splats have no text yet
+pub const_text-bytes : (m : Module) (c : LLVMConst) (t : LLVMType) (bytes : List ℕ) → slice_get m.consts c.0 ≡ Some (C.Bytes t bytes) → const_text (const_at (trees_of m).consts c) ≡ []
+const_text-bytes m c t bytes at = ap const_text (const_tree_of m c (C.Bytes t bytes) at tt)
+
+pub const_text-list : (m : Module) (c : LLVMConst) (t : LLVMType) (elements : List LLVMConst) → slice_get m.consts c.0 ≡ Some (C.List t elements) → IsMadeBelow c.0 (C.List t elements) → const_text (const_at (trees_of m).consts c) ≡ []
+const_text-list m c t elements at below = ap const_text (const_tree_of m c (C.List t elements) at below)
+
+pub const_text-splat : (m : Module) (c : LLVMConst) (t : LLVMType) (element : LLVMConst) → slice_get m.consts c.0 ≡ Some (C.Splat t element) → IsMadeBelow c.0 (C.Splat t element) → const_text (const_at (trees_of m).consts c) ≡ []
+const_text-splat m c t element at below = ap const_text (const_tree_of m c (C.Splat t element) at below)
 
 -- the word of zero goes by what kind the type is of
 pub filled_text-zero : (m : Module) (t : LLVMType) (k : LLVMTypeKind) (pointer : Bool) → IsModule m → slice_get m.types t.0 ≡ Some k → pointer ≡ is_pointer (shape_of k)

@@ -4,7 +4,7 @@ ghost use Rattle.std.specs.Prelude.{◌≡◌, ◌<◌, ◌≤◌, ◌^◌, ◌+
 ghost use Rattle.kinds.specs.Held.{width_in};
 ghost use Rattle.support.specs.Appended.{Keeps};
 ghost use Rattle.llvm_core.specs.declared.consts.LLVMConstKind.TheVariants as consts;
-ghost use Rattle.llvm_core.specs.Parts.{IsConstOver};
+ghost use Rattle.llvm_core.specs.Consts.{IsConstIn};
 ghost use Rattle.llvm_core.specs.Sound.{IsModule};
 ghost use Rattle.llvm_core.specs.Data.{trees_of, type_at, const_at};
 ghost use Rattle.ll_print.specs.Printing.{int_text, filled_text, const_text};
@@ -43,7 +43,7 @@ fn put_int(width: u32, value: u128, out: &mut Vec<u8>) -> Result<(), AllocError>
 /// A value of an integer type.
 fn put_typed(m: &LLVMModule, ty: LLVMType, value: u128, out: &mut Vec<u8>) -> Result<(), AllocError>
     requires sound { IsModule m.now }
-    requires typed { IsConstOver m.now.types (consts.Int ty value) }
+    requires typed { IsConstIn m.now (consts.Int ty value) }
     ensures text { OnOk result (out.new.items ≡ out.old.items ++ int_text (width_in (type_at (trees_of m.now).types ty)) value) }
     ensures kept { Keeps out.old.items out.new.items }
 {
@@ -56,7 +56,7 @@ fn put_typed(m: &LLVMModule, ty: LLVMType, value: u128, out: &mut Vec<u8>) -> Re
 /// The word of zero of a type, which is null where that is a pointer.
 fn zero_word(m: &LLVMModule, ty: LLVMType) -> &'static [u8]
     requires sound { IsModule m.now }
-    requires typed { IsConstOver m.now.types (consts.Filled Fill.Zero ty) }
+    requires typed { IsConstIn m.now (consts.Filled Fill.Zero ty) }
     ensures { result.now ≡ filled_text Fill.Zero (type_at (trees_of m.now).types ty) }
 {
     if is_pointer(shape_of(m.type_kind(ty))) {
@@ -69,7 +69,7 @@ fn zero_word(m: &LLVMModule, ty: LLVMType) -> &'static [u8]
 /// The word of zero, undef or poison of a type.
 fn filled_word(m: &LLVMModule, fill: Fill, ty: LLVMType) -> &'static [u8]
     requires sound { IsModule m.now }
-    requires typed { IsConstOver m.now.types (consts.Filled fill ty) }
+    requires typed { IsConstIn m.now (consts.Filled fill ty) }
     ensures { result.now ≡ filled_text fill (type_at (trees_of m.now).types ty) }
 {
     match fill {
@@ -79,7 +79,7 @@ fn filled_word(m: &LLVMModule, fill: Fill, ty: LLVMType) -> &'static [u8]
     }
 }
 
-/// A constant without its type; a placeholder has no text.
+/// A constant without its type; a placeholder has no text, and bytes, lists and splats have none yet.
 pub fn put_const(m: &LLVMModule, c: LLVMConst, out: &mut Vec<u8>) -> Result<(), AllocError>
     requires sound { IsModule m.now }
     requires within { c.0 < length m.now.consts }
@@ -89,6 +89,9 @@ pub fn put_const(m: &LLVMModule, c: LLVMConst, out: &mut Vec<u8>) -> Result<(), 
     match m.const_kind(c) {
         LLVMConstKind::Int(ty, value) => put_typed(m, *ty, *value, out),
         LLVMConstKind::Filled(fill, ty) => out.extend_from_slice(filled_word(m, *fill, *ty)),
+        LLVMConstKind::Bytes(..) => Ok(()),
+        LLVMConstKind::List(..) => Ok(()),
+        LLVMConstKind::Splat(..) => Ok(()),
         LLVMConstKind::Placeholder(..) => Ok(()),
     }
 }

@@ -14,6 +14,7 @@ use Rattle.llvm_core.specs.Parts.{IsTypeOver}
 use Rattle.llvm_core.specs.Sound.{IsModule}
 use Rattle.llvm_core.specs.Data.{ConstTree, trees_of, type_trees, const_trees, type_at, types_at, const_at, type_tree, data_of}
 use Rattle.llvm_core.proofs.TreeLemmas.{same_tree, type_at-kept, const_at-kept, const_trees-retyped}
+use Rattle.llvm_core.proofs.WithinLemmas.{const_types_within}
 use Rattle.ll_lines.specs.declared.lines.Said.{Said}
 use Rattle.ll_lines.specs.declared.lines.Said.TheVariants as S
 use Rattle.ll_lines.specs.declared.lines.Typed.{Typed}
@@ -49,7 +50,7 @@ type_interned old new k n s h rest is sound =
       consts = λ c lt.
           ap (λ (cs : List LLVMConstKind). const_at (const_trees (type_trees new.types) cs) c) consts
           ∙ ap (λ (ts : List LLVMTypeKind). const_at (const_trees (type_trees ts) old.consts) c) g.1
-          ∙ ap (λ (xs : List ConstTree). const_at xs c) (const_trees-retyped old.types g.0 old.consts s.consts);
+          ∙ ap (λ (xs : List ConstTree). const_at xs c) (const_trees-retyped old.types g.0 old.consts (const_types_within old s));
       same_data = is;
       sound = sound;
     }

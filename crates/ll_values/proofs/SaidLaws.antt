@@ -1,15 +1,17 @@
 -- What a literal says at a type.
-use Rattle.std.proofs.Common.{◌≡◌, ◌≢◌, ◌<◌, ◌≤◌, ℕ, nat_le, Bool, true, false, if◌then◌else◌, List, Option, Some, None, length, slice_get, refl, ap, sym, ◌∙◌, arith}
+use Rattle.std.proofs.Common.{◌≡◌, ◌≢◌, ◌<◌, ◌≤◌, ℕ, Bool, true, false, if◌then◌else◌, inl, inr, List, [], ◌∷◌, ◌++◌, Option, Some, None, length, length-append, slice_get, get_or, refl, ap, sym, ◌∙◌, arith}
 use Rattle.std.specs.Prelude.{IfSome, IfOk, Result, Ok, Err}
 use Rattle.std.specs.Option.{option_map, option_map_or}
 use Rattle.std.proofs.lemmas.Option.{slice_get_within}
+use Rattle.std.proofs.lemmas.List.{append-nil}
+use Rattle.support.specs.Interned.{Interned}
 use Rattle.kinds.specs.declared.fill.Fill.{Fill}
 use Rattle.kinds.specs.declared.fill.Fill.TheVariants as F
 use Rattle.kinds.specs.declared.fitting.Shape.{Shape}
 use Rattle.kinds.specs.declared.fitting.Shape.TheVariants as S
 use Rattle.kinds.specs.Fill.{is_own_fill}
 use Rattle.kinds.specs.Fitting.{is_pointer}
-use Rattle.kinds.specs.Types.{TypeTree, IntType, shape}
+use Rattle.kinds.specs.Types.{TypeTree, shape}
 use Rattle.kinds.specs.Held.{width_in}
 use Rattle.llvm_core.specs.declared.numbers.LLVMType.{LLVMType}
 use Rattle.llvm_core.specs.declared.numbers.LLVMConst.{LLVMConst}
@@ -18,10 +20,12 @@ use Rattle.llvm_core.specs.declared.types.LLVMTypeKind.TheVariants as T
 use Rattle.llvm_core.specs.declared.consts.LLVMConstKind.{LLVMConstKind}
 use Rattle.llvm_core.specs.declared.consts.LLVMConstKind.TheVariants as C
 use Rattle.llvm_core.specs.Module.{Module}
-use Rattle.llvm_core.specs.Parts.{one_form, shape_of, shape_at}
+use Rattle.llvm_core.specs.Consts.{one_form}
+use Rattle.llvm_core.specs.Parts.{shape_of, shape_at}
 use Rattle.llvm_core.specs.Sound.{IsModule}
-use Rattle.llvm_core.specs.Data.{ConstTree, IntConst, FilledConst, trees_of, type_trees, type_at, const_at, const_tree, filled_const}
+use Rattle.llvm_core.specs.Data.{ConstTree, IntConst, FilledConst, trees_of, type_trees, const_trees, type_at, const_at, const_tree, filled_const}
 use Rattle.llvm_core.proofs.DataLemmas.{type_tree_of, int_tree_of, const_tree_of}
+use Rattle.llvm_core.proofs.TreeLemmas.{same_parts, const_at-kept}
 use Rattle.llvm_core.proofs.RuleLaws.{shape_kept}
 use Rattle.llvm_core.proofs.WholeTypes.{shape_there}
 use Rattle.ll_literals.specs.Literals.{const_value}
@@ -47,7 +51,7 @@ int_const-read m ty w t o s at is = rw (int_tree_of m ty w s at) (ap (option_map
 -- ---- constants of any type
 
 -- zero, undef or poison of a type is in the module what it is in one form
-pub filled_tree : (m : Module) (cs : List ConstTree) (fill : Fill) (t : LLVMType) → IsModule m → t.0 < length m.types → const_tree (trees_of m).types cs (one_form m.types (C.Filled fill t)) ≡ filled_const fill (type_at (trees_of m).types t)
+pub filled_tree : (m : Module) (cs : List ConstTree) (fill : Fill) (t : LLVMType) → IsModule m → t.0 < length m.types → const_tree (trees_of m).types cs (one_form m (C.Filled fill t)) ≡ filled_const fill (type_at (trees_of m).types t)
 filled_tree m cs fill t s within =
     by (is_own_fill fill (shape_at m.types t)) ∙ ap (λ (x : Shape). if is_own_fill fill x then FilledConst fill (type_at (trees_of m).types t) else IntConst (width_in (type_at (trees_of m).types t)) 0) (shape_there m s t within)
   where
@@ -57,7 +61,7 @@ filled_tree m cs fill t s within =
 
 -- a word of such a constant says it, and another is an integer's digits or nothing
 pub const_of-word : (m : Module) (fill : Fill) (ty : LLVMType) (t : Text) → IsModule m → ty.0 < length m.types → fill_of t ≡ Some fill
-    → const_of (type_at (trees_of m).types ty) t ≡ Some (const_tree (trees_of m).types (trees_of m).consts (one_form m.types (C.Filled fill ty)))
+    → const_of (type_at (trees_of m).types ty) t ≡ Some (const_tree (trees_of m).types (trees_of m).consts (one_form m (C.Filled fill ty)))
 const_of-word m fill ty t s within is =
     ap (λ (o : Option Fill). option_map_or (λ (f : Fill). Some (filled_const f (type_at (trees_of m).types ty))) o (int_const (type_at (trees_of m).types ty) t)) is
     ∙ ap Some (sym (filled_tree m (trees_of m).consts fill ty s within))
@@ -81,7 +85,7 @@ pointer_told : (m : Module) (ty : LLVMType) (k : LLVMTypeKind) (b : Bool) → Is
 pointer_told m ty k b s at is = ap (λ (τ : TypeTree). is_pointer (shape τ)) (type_tree_of m ty k s at) ∙ ap is_pointer (sym (shape_kept (trees_of m).types k)) ∙ is
 
 pub null_of-pointer : (m : Module) (ty : LLVMType) (k : LLVMTypeKind) → IsModule m → slice_get m.types ty.0 ≡ Some k → is_pointer (shape_of k) ≡ true
-    → null_of (type_at (trees_of m).types ty) ≡ Some (const_tree (trees_of m).types (trees_of m).consts (one_form m.types (C.Filled F.Zero ty)))
+    → null_of (type_at (trees_of m).types ty) ≡ Some (const_tree (trees_of m).types (trees_of m).consts (one_form m (C.Filled F.Zero ty)))
 null_of-pointer m ty k s at is =
     let pointer = pointer_told m ty k true s at is in
     let one : filled_const F.Zero (type_at (trees_of m).types ty) ≡ FilledConst F.Zero (type_at (trees_of m).types ty) = rw (pointer_own (shape (type_at (trees_of m).types ty)) pointer) refl in
@@ -93,22 +97,28 @@ null_of-other m ty k s at is = rw (pointer_told m ty k false s at is) refl
 
 -- ---- what is said
 
--- no constant stands for another's part
-any_consts : (ts : List TypeTree) (cs ds : List ConstTree) (k : LLVMConstKind) → const_tree ts cs k ≡ const_tree ts ds k
-any_consts ts cs ds (C.Int t v) = refl
-any_consts ts cs ds (C.Filled fill t) = refl
-any_consts ts cs ds (C.Placeholder number t) = refl
-
--- a constant that a module was given is the one that it was given, over the types from before
-pub given_const : (m n : Module) (c : LLVMConst) (k : LLVMConstKind) → n.types ≡ m.types → slice_get n.consts c.0 ≡ Some k → const_tree (trees_of m).types (trees_of m).consts k ≡ const_at (trees_of n).consts c
-given_const m n c k same here =
-    any_consts (trees_of m).types (trees_of m).consts (trees_of n).consts k
+-- a constant that a module was given is the one that it was given, over the types and the constants from before
+pub given_const : (m n : Module) (c : LLVMConst) (k : LLVMConstKind) → IsModule n → n.types ≡ m.types → Interned m.consts n.consts k c.0 → const_tree (trees_of m).types (trees_of m).consts k ≡ const_at (trees_of n).consts c
+given_const m n c k s same interned =
+    same_parts (trees_of m).types (trees_of m).consts (trees_of n).consts c.0 parts_same k (s.consts_below c.0 k interned.here)
     ∙ ap (λ (ts : List LLVMTypeKind). const_tree (type_trees ts) (trees_of n).consts k) (sym same)
-    ∙ sym (const_tree_of n c k here)
+    ∙ sym (const_tree_of n c k interned.here (s.consts_below c.0 k interned.here))
+  where
+    grown : (more : List LLVMConstKind) × (n.consts ≡ m.consts ++ more) × (c.0 ≤ length m.consts)
+    grown = elim interned.only [
+      | inl same ↦ (let lt = slice_get_within n.consts c.0 k interned.here in ([], same ∙ sym (append-nil m.consts), omega (arith, lt, ap length same)))
+      | inr more ↦ (let lt = slice_get_within n.consts c.0 k interned.here in (k ∷ [], more, omega (arith, lt, ap length more, length-append m.consts (k ∷ []))))
+    ]
+
+    parts_same : (j : ℕ) → j < c.0 → get_or (trees_of m).consts j (IntConst 0 0) ≡ get_or (trees_of n).consts j (IntConst 0 0)
+    parts_same j below =
+        sym (ap (λ (ts : List LLVMTypeKind). get_or (const_trees (type_trees ts) n.consts) j (IntConst 0 0)) same
+        ∙ ap (λ (cs : List LLVMConstKind). get_or (const_trees (type_trees m.types) cs) j (IntConst 0 0)) grown.1
+        ∙ const_at-kept (type_trees m.types) m.consts grown.0 j (omega (arith, below, grown.2)))
 
 -- what is read as a constant is said as one
-pub said_by : (m n : Module) (bytes : Text) (o : Option ConstTree) (kind : Option LLVMConstKind) (r : Result Said ValueErr) → (let tree = const_tree (trees_of m).types (trees_of m).consts in IfSome kind (λ k. o ≡ Some (tree (one_form m.types k))) → (kind ≡ None → o ≡ None)
-    → IfOk r (λ x. (bytes : Text) → option_map (λ k. Const (tree (one_form m.types k))) kind ≡ Some (said_view bytes (trees_of n) x)) → IfOk r (λ x. option_map Const o ≡ Some (said_view bytes (trees_of n) x)))
+pub said_by : (m n : Module) (bytes : Text) (o : Option ConstTree) (kind : Option LLVMConstKind) (r : Result Said ValueErr) → (let tree = const_tree (trees_of m).types (trees_of m).consts in IfSome kind (λ k. o ≡ Some (tree (one_form m k))) → (kind ≡ None → o ≡ None)
+    → IfOk r (λ x. (bytes : Text) → option_map (λ k. Const (tree (one_form m k))) kind ≡ Some (said_view bytes (trees_of n) x)) → IfOk r (λ x. option_map Const o ≡ Some (said_view bytes (trees_of n) x)))
 said_by m n bytes o kind (Err e) is none says = tt
 said_by m n bytes o None (Ok x) is none says = absurd (let never = says bytes in cc (never))
 said_by m n bytes o (Some k) (Ok x) is none says = ap (option_map Const) is ∙ says bytes

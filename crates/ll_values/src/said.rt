@@ -3,7 +3,8 @@
 ghost use Rattle.std.specs.Prelude.{◌≡◌, ◌≤◌, Some, None, Err, IfOk, IfSome, OnOk, length, slice_get};
 ghost use Rattle.llvm_core.specs.declared.types.LLVMTypeKind.TheVariants as T;
 ghost use Rattle.std.specs.Option.{option_map};
-ghost use Rattle.llvm_core.specs.Parts.{IsTypeOver, HasFitParts, HasConstParts, one_form};
+ghost use Rattle.llvm_core.specs.Consts.{HasConstParts, one_form};
+ghost use Rattle.llvm_core.specs.Parts.{IsTypeOver, HasFitParts};
 ghost use Rattle.llvm_core.specs.Sound.{IsModule};
 ghost use Rattle.llvm_core.specs.Data.{trees_of, type_at, type_tree, const_tree};
 ghost use Rattle.ll_lines.specs.Lines.{Text, Const};
@@ -87,8 +88,8 @@ fn const_width(m: &LLVMModule, ty: LLVMType) -> Option<u32>
 fn int_const(m: &LLVMModule, text: &[u8], ty: LLVMType) -> Option<LLVMConstKind>
     requires sound { IsModule m.now }
     requires there { IsTypeIn m.now ty }
-    ensures parts { IfSome result (HasConstParts m.now.types) }
-    ensures said { IfSome result (λ k. int_const (type_at (trees_of m.now).types ty) text.now ≡ Some (const_tree (trees_of m.now).types (trees_of m.now).consts (one_form m.now.types k))) }
+    ensures parts { IfSome result (HasConstParts m.now) }
+    ensures said { IfSome result (λ k. int_const (type_at (trees_of m.now).types ty) text.now ≡ Some (const_tree (trees_of m.now).types (trees_of m.now).consts (one_form m.now k))) }
     ensures none { result ≡ None → int_const (type_at (trees_of m.now).types ty) text.now ≡ None }
 {
     let width = const_width(m, ty)?;
@@ -100,8 +101,8 @@ fn int_const(m: &LLVMModule, text: &[u8], ty: LLVMType) -> Option<LLVMConstKind>
 fn const_of(m: &LLVMModule, text: &[u8], ty: LLVMType) -> Option<LLVMConstKind>
     requires sound { IsModule m.now }
     requires there { IsTypeIn m.now ty }
-    ensures parts { IfSome result (HasConstParts m.now.types) }
-    ensures said { IfSome result (λ k. const_of (type_at (trees_of m.now).types ty) text.now ≡ Some (const_tree (trees_of m.now).types (trees_of m.now).consts (one_form m.now.types k))) }
+    ensures parts { IfSome result (HasConstParts m.now) }
+    ensures said { IfSome result (λ k. const_of (type_at (trees_of m.now).types ty) text.now ≡ Some (const_tree (trees_of m.now).types (trees_of m.now).consts (one_form m.now k))) }
     ensures none { result ≡ None → const_of (type_at (trees_of m.now).types ty) text.now ≡ None }
 {
     match fill_of(text) {
@@ -114,8 +115,8 @@ fn const_of(m: &LLVMModule, text: &[u8], ty: LLVMType) -> Option<LLVMConstKind>
 fn null_of(m: &LLVMModule, ty: LLVMType) -> Option<LLVMConstKind>
     requires sound { IsModule m.now }
     requires there { IsTypeIn m.now ty }
-    ensures parts { IfSome result (HasConstParts m.now.types) }
-    ensures said { IfSome result (λ k. null_of (type_at (trees_of m.now).types ty) ≡ Some (const_tree (trees_of m.now).types (trees_of m.now).consts (one_form m.now.types k))) }
+    ensures parts { IfSome result (HasConstParts m.now) }
+    ensures said { IfSome result (λ k. null_of (type_at (trees_of m.now).types ty) ≡ Some (const_tree (trees_of m.now).types (trees_of m.now).consts (one_form m.now k))) }
     ensures none { result ≡ None → null_of (type_at (trees_of m.now).types ty) ≡ None }
 {
     if is_pointer(shape_of(m.type_kind(ty))) {
@@ -129,10 +130,10 @@ fn null_of(m: &LLVMModule, ty: LLVMType) -> Option<LLVMConstKind>
 #[inline(never)]
 fn said_const(m: &mut LLVMModule, kind: Option<LLVMConstKind>) -> Result<Said, ValueErr>
     requires sound { IsModule m.old }
-    requires parts { IfSome kind (HasConstParts m.old.types) }
+    requires parts { IfSome kind (HasConstParts m.old) }
     ensures interns { OnOk result (Interns m.old m.new) }
     ensures there { IfOk result (IsSaidIn m.new) }
-    ensures said { IfOk result (λ x. (bytes : Text) → option_map (λ k. Const (const_tree (trees_of m.old).types (trees_of m.old).consts (one_form m.old.types k))) kind ≡ Some (said_view bytes (trees_of m.new) x)) }
+    ensures said { IfOk result (λ x. (bytes : Text) → option_map (λ k. Const (const_tree (trees_of m.old).types (trees_of m.old).consts (one_form m.old k))) kind ≡ Some (said_view bytes (trees_of m.new) x)) }
     ensures not_yet { result ≡ Err ValueErr.NotYet → kind ≡ None }
 {
     let Some(kind) = kind else {

@@ -12,7 +12,7 @@ use Rattle.kinds.specs.Types.{TypeTree, VoidType, shape, same_tree}
 use Rattle.kinds.specs.Held.{is_void, IsFirstClass}
 use Rattle.kinds.specs.Typing.{fits_trees, given, typed}
 use Rattle.kinds.proofs.HeldLaws.{value_own}
-use Rattle.llvm_core.specs.Data.{IntConst, FilledConst, PlaceholderConst, Operand, Constant, Parameter, Result, RowData, Instruction, Phi, Applied, Placed, Function, operand_type}
+use Rattle.llvm_core.specs.Data.{IntConst, FilledConst, BytesConst, ListConst, SplatConst, PlaceholderConst, Operand, Constant, Parameter, Result, RowData, Instruction, Phi, Applied, Placed, Function, operand_type}
 use Rattle.llvm_core.specs.Form.{constant_type, operands_of, IsOperandOf, IsOperand, IsFormRow, IsFormInstruction, IsFormPlaced, types_of, returns_void}
 use Rattle.kinds.specs.Names.{IsGoodOrNone}
 use Rattle.ll_said.specs.Naming.{ParamAt, ResultOf, local_text, result_name, block_ref}
@@ -38,6 +38,9 @@ module _ (f : Function) (sayable : IsSayable f) where
   said_form : (o : Operand) (τ : TypeTree) → IsOperandOf f o → operand_type f o ≡ τ → IsSaidOf τ (said_of f o)
   said_form (Constant (IntConst w n)) τ stands type = subst (λ (υ : TypeTree). IsConstOf υ (IntConst w n)) type (an_int w n stands.1)
   said_form (Constant (FilledConst fill σ)) τ stands type = subst (λ (υ : TypeTree). IsConstOf υ (FilledConst fill σ)) type (a_filled fill σ stands)
+  said_form (Constant (BytesConst bytes)) τ stands type = absurd stands
+  said_form (Constant (ListConst σ elements)) τ stands type = absurd stands
+  said_form (Constant (SplatConst σ element)) τ stands type = absurd stands
   said_form (Constant (PlaceholderConst n σ)) τ stands type = absurd stands
   said_form (Parameter g i) τ stands type = local_form f sayable (slice_index_or f.params i []) (ParamAt i) (sayable.form.param_names i [] stands.1)
   said_form (Result n) τ stands type = local_form f sayable (result_name f n) (ResultOf n) (result_name_form f sayable n)

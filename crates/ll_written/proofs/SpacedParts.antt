@@ -3,7 +3,6 @@ use Rattle.std.proofs.Common.{◌≡◌, ◌≤◌, ◌<◌, ◌^◌, ℕ, zero,
 use Rattle.std.specs.Prelude.{decimal, IfSome}
 use Rattle.std.specs.List.{flat_map, AllByRecursion}
 use Rattle.std.proofs.lemmas.Bool.{ltb-false, leb-true, eqb-true}
-use Rattle.std.proofs.lemmas.Bool.Decides.{nat_tests}
 use Rattle.std.proofs.Math.Nat.{pow-le-pow_right}
 use Rattle.kinds.specs.declared.op.LLVMIntPredicate.{LLVMIntPredicate}
 use Rattle.kinds.specs.declared.op.LLVMIntPredicate.TheVariants as I

@@ -1,5 +1,5 @@
 -- What the tokens of values say.
-use Rattle.std.proofs.Common.{◌≡◌, ◌<◌, ◌^◌, ℕ, zero, suc, Bool, true, false, nat_le, ◌==◌, if◌then◌else◌, List, [], ◌∷◌, ◌++◌, Option, Some, None, codes, append_assoc, refl, sym, ap, subst, arith}
+use Rattle.std.proofs.Common.{◌≡◌, ◌<◌, ◌^◌, ℕ, zero, suc, Bool, true, false, ◌==◌, if◌then◌else◌, List, [], ◌∷◌, ◌++◌, Option, Some, None, codes, append_assoc, refl, sym, ap, subst, arith}
 use Rattle.std.specs.Option.{option_map}
 use Rattle.std.proofs.lemmas.Bool.Decides.{nat_tests}
 use Rattle.std.proofs.lemmas.List.{append-nil}
@@ -10,7 +10,7 @@ use Rattle.kinds.specs.Fitting.{is_pointer}
 use Rattle.kinds.specs.Types.{TypeTree, shape}
 use Rattle.kinds.specs.Held.{IsFirstClass}
 use Rattle.kinds.proofs.HeldLaws.{first_class_int}
-use Rattle.llvm_core.specs.Data.{ConstTree, IntConst, FilledConst, PlaceholderConst}
+use Rattle.llvm_core.specs.Data.{ConstTree, IntConst, FilledConst, BytesConst, ListConst, SplatConst, PlaceholderConst}
 use Rattle.ll_lines.specs.Lines as L
 use Rattle.ll_lines.specs.Lines.{Said, Typed}
 use Rattle.ll_tokens.specs.declared.kinds.Kind.{Kind}
@@ -33,9 +33,13 @@ filled_literal Z.Zero τ = if is_pointer (shape τ) then NullL else ConstL (code
 filled_literal Z.Undef τ = ConstL (codes "undef")
 filled_literal Z.Poison τ = ConstL (codes "poison")
 
+-- bytes, lists, splats and placeholders have no text
 abbrev const_literal : ConstTree → Literal
 const_literal (IntConst w n) = ConstL (int_text w n)
 const_literal (FilledConst fill τ) = filled_literal fill τ
+const_literal (BytesConst bytes) = ConstL []
+const_literal (ListConst τ elements) = ConstL []
+const_literal (SplatConst τ element) = ConstL []
 const_literal (PlaceholderConst n τ) = ConstL []
 
 -- a value as it is written

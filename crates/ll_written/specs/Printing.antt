@@ -16,7 +16,7 @@ use Rattle.kinds.specs.declared.types.VectorTypeKind.{VectorTypeKind}
 use Rattle.kinds.specs.declared.types.VectorTypeKind.TheVariants as V
 use Rattle.kinds.specs.declared.types.StructLayout.{StructLayout}
 use Rattle.kinds.specs.declared.types.StructLayout.TheVariants as L
-use Rattle.llvm_core.specs.Data.{TypeTree, VoidType, IntType, PointerType, FloatingType, RefusedType, ArrayType, VectorType, StructType, NamedType, FunctionType, TypeTrees, NoTypes, ThenType, ConstTree, IntConst, FilledConst, PlaceholderConst, Operand, Constant, Parameter, Result, Instruction, Phi, RowData, Applied, Placed, Block, Function, StructBody, Struct, ModuleData, operand_type, param_type}
+use Rattle.llvm_core.specs.Data.{TypeTree, VoidType, IntType, PointerType, FloatingType, RefusedType, ArrayType, VectorType, StructType, NamedType, FunctionType, TypeTrees, NoTypes, ThenType, ConstTree, IntConst, FilledConst, BytesConst, ListConst, SplatConst, PlaceholderConst, Operand, Constant, Parameter, Result, Instruction, Phi, RowData, Applied, Placed, Block, Function, StructBody, Struct, ModuleData, operand_type, param_type}
 use Rattle.kinds.specs.Fitting.{is_pointer}
 use Rattle.kinds.specs.Types.{result_of, shape}
 use Rattle.kinds.specs.Held.{is_void}
@@ -109,10 +109,14 @@ filled_text Z.Zero type = if is_pointer (shape type) then codes "null" else code
 filled_text Z.Undef type = codes "undef"
 filled_text Z.Poison type = codes "poison"
 
--- a constant without its type, a line for each kind; a checked module has no placeholder
+-- a constant without its type, a line for each kind; a checked module has no placeholder, and bytes, lists and splats have no
+-- text yet: a module of the form has none
 abbrev pub const_text : ConstTree → Text
 const_text (IntConst w v) = int_text w v
 const_text (FilledConst fill type) = filled_text fill type
+const_text (BytesConst bytes) = []
+const_text (ListConst type elements) = []
+const_text (SplatConst type element) = []
 const_text (PlaceholderConst number type) = []
 
 -- ---- instructions

@@ -1,5 +1,5 @@
 -- Files that their text says: what is asked of each part.
-use Rattle.std.specs.Prelude.{◌≡◌, ◌<◌, ◌≤◌, ◌^◌, ℕ, Bool, true, ◌&&◌, [], length, map, IfSome}
+use Rattle.std.specs.Prelude.{◌≡◌, ℕ, Bool, true, ◌&&◌, [], length, map, IfSome}
 use Rattle.std.specs.List.{AllByRecursion}
 use Rattle.kinds.specs.Rules.{target_count, operand_count}
 use Rattle.kinds.specs.Table.{rule_of}

@@ -8,7 +8,7 @@ use Rattle.kinds.specs.declared.types.VectorTypeKind.TheVariants as V
 use Rattle.kinds.specs.declared.types.StructLayout.TheVariants as S
 use Rattle.kinds.specs.Types.{TypeTree, PointerType, ArrayType, VectorType, StructType, NamedType, TypeTrees, NoTypes, ThenType}
 use Rattle.kinds.specs.Structs.{StructBody}
-use Rattle.llvm_core.specs.Data.{ConstTree, IntConst, FilledConst, PlaceholderConst}
+use Rattle.llvm_core.specs.Data.{ConstTree, IntConst, FilledConst, BytesConst, ListConst, SplatConst, PlaceholderConst}
 use Rattle.ll_tokens.specs.declared.kinds.Kind.{Kind}
 use Rattle.ll_tokens.specs.declared.kinds.Kind.TheVariants as K
 use Rattle.ll_lines.specs.Lines as L
@@ -73,9 +73,13 @@ unfoldable mutual
 abbrev pub int_kind : (width : ℕ) → Kind
 int_kind w = if w == 1 then K.Word else K.Int
 
+-- bytes, lists and splats have no text yet, as placeholders have none; what is read has none of them
 abbrev pub const_kind : ConstTree → Kind
 const_kind (IntConst w n) = int_kind w
 const_kind (FilledConst fill τ) = K.Word
+const_kind (BytesConst bytes) = K.Int
+const_kind (ListConst τ elements) = K.Int
+const_kind (SplatConst τ element) = K.Int
 const_kind (PlaceholderConst n τ) = K.Int
 
 abbrev pub written_said : Said → Spaced

@@ -18,7 +18,8 @@ use Rattle.llvm_core.specs.declared.code.BlockData.{BlockData}
 use Rattle.llvm_core.specs.declared.code.InstData.{InstData}
 use Rattle.llvm_core.specs.Module.{Module}
 use Rattle.llvm_core.specs.Code.{code_of, with_code}
-use Rattle.llvm_core.specs.Parts.{IsTypeOver, HasFitParts, IsConstOver}
+use Rattle.llvm_core.specs.Consts.{IsConstIn, IsMadeBelow}
+use Rattle.llvm_core.specs.Parts.{IsTypeOver, HasFitParts}
 use Rattle.llvm_core.specs.Sound.{IsStructIn, IsFunctionIn, IsBlockIn, IsInstIn, IsListedBlock, IsListedInst, OwnsBlocks, OwnsInsts, IsModule}
 use Rattle.llvm_core.specs.Bodies.{with_lists, added, block_numbers, inst_numbers, body_blocks, body_insts, inst_in}
 use Rattle.llvm_core.proofs.DataLemmas.{within_at}
@@ -31,7 +32,8 @@ pub record IsFrame (m : Module) : Type 0 where
   pub types : (i : ℕ) (k : LLVMTypeKind) → slice_get m.types i ≡ Some k → IsTypeOver i k
   pub types_fit : (i : ℕ) (k : LLVMTypeKind) → slice_get m.types i ≡ Some k → HasFitParts m.types k
   pub types_once : IsDistinctList m.types
-  pub consts : (i : ℕ) (k : LLVMConstKind) → slice_get m.consts i ≡ Some k → IsConstOver m.types k
+  pub consts : (i : ℕ) (k : LLVMConstKind) → slice_get m.consts i ≡ Some k → IsConstIn m k
+  pub consts_below : (i : ℕ) (k : LLVMConstKind) → slice_get m.consts i ≡ Some k → IsMadeBelow i k
   pub consts_once : IsDistinctList m.consts
   pub structs : All (IsStructIn m.types) m.structs
   pub functions : (f : ℕ) (x : FunctionData) → slice_get m.functions f ≡ Some x → IsFunctionIn m x
@@ -47,6 +49,7 @@ frame_of m s = record {
   types_fit = s.types_fit;
   types_once = s.types_once;
   consts = s.consts;
+  consts_below = s.consts_below;
   consts_once = s.consts_once;
   structs = s.structs;
   functions = s.functions;
@@ -63,6 +66,7 @@ module_of m s insts = record {
   types_fit = s.types_fit;
   types_once = s.types_once;
   consts = s.consts;
+  consts_below = s.consts_below;
   consts_once = s.consts_once;
   structs = s.structs;
   functions = s.functions;
@@ -88,6 +92,7 @@ lists_grow m f ns bs is =
     record {
       types = λ i x e. e;
       consts = λ i x e. e;
+      structs = λ i x e. e;
       function_types = change_types function_type change (λ x. refl) f.0 m.functions;
       inst_types = append_types inst_type m.insts is;
       type_count = omega arith;
@@ -241,6 +246,7 @@ module _ (m : Module) (f : LLVMFunction) (b : BodyBlock) (s : IsFrame m) (there 
     types_fit = s.types_fit;
     types_once = s.types_once;
     consts = s.consts;
+    consts_below = s.consts_below;
     consts_once = s.consts_once;
     structs = s.structs;
     functions = function_right;

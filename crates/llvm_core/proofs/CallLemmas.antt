@@ -36,7 +36,7 @@ use Rattle.support.proofs.ListLaws.{slice_get-push, item_there, slice_get-before
 use Rattle.llvm_core.proofs.TreeLemmas.{type_at-kept, type_at-kind, const_trees-retyped, const_at-kept}
 use Rattle.llvm_core.proofs.SoundLemmas.{made_only}
 use Rattle.llvm_core.proofs.StructLemmas.{structs_same}
-use Rattle.llvm_core.proofs.WithinLemmas.{result_within}
+use Rattle.llvm_core.proofs.WithinLemmas.{const_types_within, result_within}
 
 -- ---- trees that agree on what is there
 
@@ -118,7 +118,7 @@ added old new k (inr longer) = (k ∷ [], longer)
 retyped : (m : Module) (types more : List LLVMTypeKind) → types ≡ m.types ++ more → IsModule m → SameTrees m (trees_of (record m { types = types })) (trees_of m)
 retyped m types more e s = record {
   types = λ ty lt. ap (λ ks. type_at (type_trees ks) ty) e ∙ type_at-kept m.types more ty lt;
-  consts = λ c lt. ap (λ cs. const_at cs c) (ap (λ ks. const_trees (type_trees ks) m.consts) e ∙ const_trees-retyped m.types more m.consts s.consts);
+  consts = λ c lt. ap (λ cs. const_at cs c) (ap (λ ks. const_trees (type_trees ks) m.consts) e ∙ const_trees-retyped m.types more m.consts (const_types_within m s));
 }
 
 pub type_data : (m : Module) (types : List LLVMTypeKind) (k : LLVMTypeKind) → IsModule m → (types ≡ m.types) ⊎ (types ≡ m.types ++ k ∷ []) → data_of (record m { types = types }) ≡ data_of m

@@ -6,7 +6,7 @@ use Rattle.std.proofs.lemmas.Bool.{cases_eq, cases_Bool, eqb-true, not-false, or
 use Rattle.std.proofs.lemmas.Option.{slice_get-map, same_Some}
 use Rattle.support.proofs.ListLaws.{all_from, item_there, in_joined, from_joined}
 use Rattle.kinds.specs.Types.{count_types}
-use Rattle.kinds.specs.Held.{deepest, IsFirstClass}
+use Rattle.kinds.specs.Held.{deepest}
 use Rattle.kinds.specs.Structs.{nests}
 use Rattle.kinds.proofs.NestLaws.{nested_shallow}
 use Rattle.llvm_core.specs.declared.numbers.LLVMFunction.{LLVMFunction}
@@ -25,14 +25,14 @@ use Rattle.llvm_core.specs.Edges.{targets_at, targets_from}
 use Rattle.llvm_core.specs.Edges.{targets as leads_to}
 use Rattle.llvm_core.specs.Parts.{HasValues, IsBlock}
 use Rattle.llvm_core.specs.Sound.{IsModule}
-use Rattle.llvm_core.specs.Data.{Operand, Placed, Block, trees_of, block_at, structs_of, data_of, operand_type}
+use Rattle.llvm_core.specs.Data.{Placed, Block, trees_of, block_at, structs_of, data_of}
 use Rattle.llvm_core.specs.Checked.{IsChecked, MisfitsType, is_intrinsic_name, misfits_count, home, ends_in_only, is_block_outside, is_outside, reaches_outside, is_deep, is_deep_struct, is_deep_inst}
-use Rattle.llvm_core.specs.Form.{IsForm, IsFormFunction, IsFormBlock, IsFormPlaced, IsNarrow, IsNarrowFunction, IsNarrowBlock, IsNarrowPlaced, operands_of, HasPhisFirst, is_last, is_phi}
+use Rattle.llvm_core.specs.Form.{IsForm, IsFormFunction, IsFormBlock, IsFormPlaced, IsNarrow, IsNarrowFunction, IsNarrowBlock, IsNarrowPlaced, IsNarrowOperand, operands_of, HasPhisFirst, is_last, is_phi}
 use Rattle.llvm_core.proofs.DataLemmas.{within_at, function_at}
 use Rattle.llvm_core.proofs.GivenLemmas.{none_any_at}
 use Rattle.llvm_core.proofs.FormTypes.{numbered, signature_of, param_types_are, count_is}
 use Rattle.llvm_core.proofs.FormPlaces.{shown, shown_inst, same_block_ends, same_phi_at, inst_place, IsFromBlock, block_from, IsFromInst, inst_from}
-use Rattle.llvm_core.proofs.FormValues.{IsFirstClassHere}
+use Rattle.llvm_core.proofs.FormValues.{IsNarrowHere}
 use Rattle.llvm_core.proofs.FormEdges.{StaysInside, count_present, same_edges}
 use Rattle.llvm_core.proofs.DistinctLaws.{each_function}
 use Rattle.llvm_core.proofs.FormNested.{all_allowed}
@@ -129,9 +129,9 @@ module _ (m : Module) (sound : IsModule m) (checked : IsChecked m) where
     inst_form i z is y block_is own narrow_inst =
         let home_is : home m z ≡ numbered f = ap (λ o. option_map_or (λ (b : BlockData). b.function) o (record { 0 = 0 })) block_is ∙ ap numbered own in
         let os = operands_of (shown_inst m i z).instruction in
-        let first_class = within_at os (λ (o : Operand). IsFirstClass (operand_type (shown m f x) o)) narrow_inst.operands in
+        let operands = within_at os (IsNarrowOperand (shown m f x)) narrow_inst.operands in
         record {
-          instruction = form_of m f x sound at z.block.0 (shown_inst m i z).type z.ty refl z.inst (meets f i z is home_is) (all_from (IsFirstClassHere m f x sound at) os first_class)
+          instruction = form_of m f x sound at z.block.0 (shown_inst m i z).type z.ty refl z.inst (meets f i z is home_is) (all_from (IsNarrowHere m f x sound at) os operands)
               (λ p. same_edges m f x sound at narrow.block_numbers stays_inside p z.block.0 y block_is own) (λ k t leads. leads_behind f x i z k t at is leads);
           returned = narrow_inst.result;
           name = narrow_inst.name;

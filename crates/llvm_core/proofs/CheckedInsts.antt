@@ -37,7 +37,7 @@ use Rattle.llvm_core.proofs.RuleLaws.{tree, fits_by_tree, result_by_tree}
 use Rattle.llvm_core.proofs.FormTypes.{numbered}
 use Rattle.llvm_core.proofs.FormPlaces.{shown, shown_block, block_place}
 use Rattle.llvm_core.proofs.FormEdges.{same_sources}
-use Rattle.llvm_core.proofs.FormValues.{IsFirstClassHere, value_typed, value_stands, values_stand, types_same, same_void, return_form}
+use Rattle.llvm_core.proofs.FormValues.{IsNarrowHere, value_typed, value_stands, values_stand, types_same, same_void, return_form}
 
 -- the entry of a phi whose data stand at a place
 entry_from : (m : Module) (entries : List PhiEntry) (k : ℕ) (o : Operand × ℕ) → slice_get (map (entry_of (trees_of m)) entries) k ≡ Some o → (e : PhiEntry) × (slice_get entries k ≡ Some e) × (entry_of (trees_of m) e ≡ o)
@@ -67,7 +67,7 @@ module _ (m : Module) (f : ℕ) (x : FunctionData) (sound : IsModule m) (at : sl
   -- ---- operands and targets
 
   abbrev IsHere : Operand → Type 0
-  IsHere = IsFirstClassHere m f x sound at
+  IsHere = IsNarrowHere m f x sound at
 
   is_operand : (v : LLVMValue) (t : LLVMType) → IsValue m v → is_outside m (numbered f) v ≡ false → IsHere (operand_of (trees_of m) v) → value_type m v ≡ Some t
       → IsOperand (shown m f x) (type_at (trees_of m).types t) (operand_of (trees_of m) v)
@@ -75,7 +75,7 @@ module _ (m : Module) (f : ℕ) (x : FunctionData) (sound : IsModule m) (at : sl
       let h = value_typed m f x sound at v here inside in
       let same : h.type ≡ t = same_Some h.type t (sym h.type_is ∙ is) in
       let typed : operand_type (shown m f x) (operand_of (trees_of m) v) ≡ type_at (trees_of m).types t = sym h.tree_is ∙ ap (type_at (trees_of m).types) same in
-      record { stands = value_stands m f x sound at v here inside narrow; typed = typed; first_class = subst IsFirstClass typed narrow }
+      record { stands = value_stands m f x sound at v here inside narrow; typed = typed; first_class = subst IsFirstClass typed narrow.0 }
 
   -- a block of the function that is not the first
   is_target : (b : LLVMBasicBlock) → IsBlock m b → is_block_outside m (numbered f) b ≡ false → slice_get x.blocks 0 ≢ Some b → IsTarget (shown m f x) b.0
@@ -154,7 +154,7 @@ module _ (m : Module) (f : ℕ) (x : FunctionData) (sound : IsModule m) (at : sl
         let types = types_same m f x sound at r.operands h.values.0 inside.0 in
         record {
           operands = values_stand m f x sound at r.operands h.values.0 inside.0 narrow;
-          first_class = All-map IsFirstClass (operand_type (shown m f x)) os narrow;
+          first_class = All-map IsFirstClass (operand_type (shown m f x)) os (All-weaker IsHere (λ (o : Operand). IsFirstClass (operand_type (shown m f x) o)) (λ o h. h.0) os narrow);
           count = length-map r.operands (operand_of (trees_of m)) ∙ eqb-true (length r.operands) (operand_count takes (returns_void m (numbered f))) counts.0 ∙ ap (operand_count takes) (same_void m f x sound at);
           fits = ap (fits_trees r.op (option_map (tree m sound) r.written)) types ∙ fits_by_tree m sound r h.values ∙ not-false (row_fits m r) fits.0;
           returns = return_form m f x sound at takes r.operands h.values.0 inside.0 fits.1;

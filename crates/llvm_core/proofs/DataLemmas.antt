@@ -21,7 +21,7 @@ use Rattle.llvm_core.specs.declared.code.InstData.{InstData}
 use Rattle.kinds.specs.Held.{width_in}
 use Rattle.llvm_core.specs.Module.{Module}
 use Rattle.llvm_core.specs.Parts as parts
-use Rattle.llvm_core.specs.Parts.{IsConstOver}
+use Rattle.llvm_core.specs.Consts.{IsConstIn, IsMadeBelow}
 use Rattle.llvm_core.specs.Sound.{IsModule}
 use Rattle.llvm_core.specs.Data.{VoidType, IntType, FunctionType, ConstTree, IntConst, FilledConst, PlaceholderConst, Placed, Block, type_at, types_at, type_tree, const_at, const_tree, const_type, trees_of, placed_of, placed_at, block_of, block_at, function_of, data_of}
 use Rattle.llvm_core.proofs.TreeLemmas.{type_at-kind, const_at-kind}
@@ -43,26 +43,33 @@ pub function_tree_of : (m : Module) (t result : LLVMType) (params : List LLVMTyp
 function_tree_of m t result params variadic s at = type_tree_of m t (T.Function result params variadic) s at
 
 -- the tree of a constant is that of its kind
-pub const_tree_of : (m : Module) (c : LLVMConst) (k : LLVMConstKind) → slice_get m.consts c.0 ≡ Some k → const_at (trees_of m).consts c ≡ const_tree (trees_of m).types (trees_of m).consts k
-const_tree_of m c k at = const_at-kind (trees_of m).types m.consts c.0 k at
+pub const_tree_of : (m : Module) (c : LLVMConst) (k : LLVMConstKind) → slice_get m.consts c.0 ≡ Some k → IsMadeBelow c.0 k → const_at (trees_of m).consts c ≡ const_tree (trees_of m).types (trees_of m).consts k
+const_tree_of m c k at below = const_at-kind (trees_of m).types m.consts c.0 k at below
 
 pub int_const_of : (m : Module) (c : LLVMConst) (t : LLVMType) (value : ℕ) → slice_get m.consts c.0 ≡ Some (C.Int t value) → const_at (trees_of m).consts c ≡ IntConst (width_in (type_at (trees_of m).types t)) value
-int_const_of m c t value at = const_tree_of m c (C.Int t value) at
+int_const_of m c t value at = const_tree_of m c (C.Int t value) at tt
 
 pub filled_const_of : (m : Module) (c : LLVMConst) (fill : Fill) (t : LLVMType) → slice_get m.consts c.0 ≡ Some (C.Filled fill t) → const_at (trees_of m).consts c ≡ FilledConst fill (type_at (trees_of m).types t)
-filled_const_of m c fill t at = const_tree_of m c (C.Filled fill t) at
+filled_const_of m c fill t at = const_tree_of m c (C.Filled fill t) at tt
 
 pub placeholder_const_of : (m : Module) (c : LLVMConst) (number : ℕ) (t : LLVMType) → slice_get m.consts c.0 ≡ Some (C.Placeholder number t) → const_at (trees_of m).consts c ≡ PlaceholderConst number (type_at (trees_of m).types t)
-placeholder_const_of m c number t at = const_tree_of m c (C.Placeholder number t) at
+placeholder_const_of m c number t at = const_tree_of m c (C.Placeholder number t) at tt
 
 -- the type of a constant's tree is the tree of its type
-pub const_tree_typed : (m : Module) (cs : List ConstTree) (k : LLVMConstKind) → IsModule m → IsConstOver m.types k → const_type (const_tree (trees_of m).types cs k) ≡ type_at (trees_of m).types (parts.const_type k)
+pub const_tree_typed : (m : Module) (cs : List ConstTree) (k : LLVMConstKind) → IsModule m → IsConstIn m k → const_type (const_tree (trees_of m).types cs k) ≡ type_at (trees_of m).types (parts.const_type k)
 const_tree_typed m cs (C.Int t value) s h = let e = int_tree_of m t h.0 s h.1 in cc
 const_tree_typed m cs (C.Filled fill t) s h = refl
+const_tree_typed m cs (C.Bytes t bytes) s h =
+    let element = h.0.0.0 in
+    let typed = type_tree_of m t (T.Array (length bytes) element) s h.0.0.1 in
+    let byte = int_tree_of m element 8 s h.0.0.2 in
+    cc
+const_tree_typed m cs (C.List t elements) s h = refl
+const_tree_typed m cs (C.Splat t element) s h = refl
 const_tree_typed m cs (C.Placeholder number t) s h = refl
 
 pub const_type_of : (m : Module) (c : LLVMConst) (k : LLVMConstKind) → IsModule m → slice_get m.consts c.0 ≡ Some k → const_type (const_at (trees_of m).consts c) ≡ type_at (trees_of m).types (parts.const_type k)
-const_type_of m c k s at = ap const_type (const_tree_of m c k at) ∙ const_tree_typed m (trees_of m).consts k s (s.consts c.0 k at)
+const_type_of m c k s at = ap const_type (const_tree_of m c k at (s.consts_below c.0 k at)) ∙ const_tree_typed m (trees_of m).consts k s (s.consts c.0 k at)
 
 -- ---- functions, blocks and instructions
 

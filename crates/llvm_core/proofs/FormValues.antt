@@ -26,9 +26,10 @@ use Rattle.llvm_core.specs.Code.{param_names}
 use Rattle.llvm_core.specs.Parts.{IsValue, value_type, param_types}
 use Rattle.llvm_core.specs.Parts.{const_type as type_of_const}
 use Rattle.llvm_core.specs.Sound.{IsModule}
-use Rattle.llvm_core.specs.Data.{TypeTree, VoidType, IntConst, Operand, Constant, Placed, const_at, type_at, trees_of, const_type, operand_of, param_type, nth_type, placed_in, operand_type}
-use Rattle.llvm_core.specs.Checked.{home, is_placeholder, is_outside, return_type, returns_void, returns_other, misfits_return}
-use Rattle.llvm_core.specs.Form.{IsFormConst, HasNumber, IsOperandOf, IsReturning, types_of}
+use Rattle.llvm_core.specs.Data.{TypeTree, VoidType, IntConst, Operand, Placed, const_at, const_tree, type_at, trees_of, const_type, operand_of, param_type, nth_type, placed_in, operand_type}
+use Rattle.llvm_core.specs.Checked.{home, is_outside, return_type, returns_void, returns_other, misfits_return}
+use Rattle.llvm_core.specs.Consts.{is_placeholder}
+use Rattle.llvm_core.specs.Form.{IsFormConst, IsPlainConst, IsNarrowOperand, HasNumber, IsOperandOf, IsReturning, types_of}
 use Rattle.llvm_core.specs.Form.{returns_void as void_returned}
 use Rattle.llvm_core.proofs.ApartLemmas.{apart, same_type}
 use Rattle.llvm_core.proofs.RuleLaws.{tree_of}
@@ -73,7 +74,7 @@ module _ (m : Module) (f : ℕ) (x : FunctionData) (sound : IsModule m) (at : sl
       record {
         type = type_of_const k.0;
         type_is = ap (option_map type_of_const) k.1;
-        within = const_type_within m.types k.0 (sound.consts c.0 k.0 k.1);
+        within = const_type_within m k.0 (sound.consts c.0 k.0 k.1);
         tree_is = sym (const_type_of m c k.0 sound k.1);
       }
 
@@ -125,26 +126,32 @@ module _ (m : Module) (f : ℕ) (x : FunctionData) (sound : IsModule m) (at : sl
 
   -- ---- values of the function
 
-  -- of a first class type
-  abbrev pub IsFirstClassHere : Operand → Type 0
-  IsFirstClassHere o = IsFirstClass (operand_type (shown m f x) o)
+  -- of a first class type, and no constant that text does not read
+  abbrev pub IsNarrowHere : Operand → Type 0
+  IsNarrowHere o = IsNarrowOperand (shown m f x) o
 
-  const_stands : (c : LLVMConst) → IsValue m (V.Const c) → is_outside m (numbered f) (V.Const c) ≡ false → IsFirstClassHere (operand_of (trees_of m) (V.Const c)) → IsFormConst (const_at (trees_of m).consts c)
+  const_stands : (c : LLVMConst) → IsValue m (V.Const c) → is_outside m (numbered f) (V.Const c) ≡ false → IsNarrowHere (operand_of (trees_of m) (V.Const c)) → IsFormConst (const_at (trees_of m).consts c)
   const_stands c here inside narrow = let k = item_there m.consts c.0 here in by k.0 k.1 (ap (λ o. option_map_or is_placeholder o false) (sym k.1) ∙ inside)
     where
+      parts : (k : LLVMConstKind) → slice_get m.consts c.0 ≡ Some k → IsPlainConst (const_tree (trees_of m).types (trees_of m).consts k)
+      parts k is = subst IsPlainConst (const_tree_of m c k is (sound.consts_below c.0 k is)) narrow.1
+
       by : (k : LLVMConstKind) → slice_get m.consts c.0 ≡ Some k → is_placeholder k ≡ false → IsFormConst (const_at (trees_of m).consts c)
       by (C.Int t v) is none =
           let typed = sound.consts c.0 (C.Int t v) is in
           let const : const_at (trees_of m).consts c ≡ IntConst typed.0 v =
-          const_tree_of m c (C.Int t v) is ∙ ap (λ (u : TypeTree). IntConst (width_in u) v) (int_tree_of m t typed.0 sound typed.1) in
-          rw const ((first_class_int typed.0 (subst (λ k. IsFirstClass (const_type k)) const narrow)).0, typed.2)
+          const_tree_of m c (C.Int t v) is tt ∙ ap (λ (u : TypeTree). IntConst (width_in u) v) (int_tree_of m t typed.0 sound typed.1) in
+          rw const ((first_class_int typed.0 (subst (λ k. IsFirstClass (const_type k)) const narrow.0)).0, typed.2)
       by (C.Filled fill t) is none =
           let own = (sound.consts c.0 (C.Filled fill t) is).1 in
           rw (filled_const_of m c fill t is) (ap (is_own_fill fill) (sym (shape_there m sound t (sound.consts c.0 (C.Filled fill t) is).0)) ∙ own)
+      by (C.Bytes t bytes) is none = absurd (parts (C.Bytes t bytes) is)
+      by (C.List t elements) is none = absurd (parts (C.List t elements) is)
+      by (C.Splat t element) is none = absurd (parts (C.Splat t element) is)
       by (C.Placeholder number t) is none = absurd cc
 
   -- a value that is there and is not outside is an operand of the function, where its type is first class
-  pub value_stands : (v : LLVMValue) → IsValue m v → is_outside m (numbered f) v ≡ false → IsFirstClassHere (operand_of (trees_of m) v) → IsOperandOf (shown m f x) (operand_of (trees_of m) v)
+  pub value_stands : (v : LLVMValue) → IsValue m v → is_outside m (numbered f) v ≡ false → IsNarrowHere (operand_of (trees_of m) v) → IsOperandOf (shown m f x) (operand_of (trees_of m) v)
   value_stands (V.Const c) here inside narrow = const_stands c here inside narrow
   value_stands (V.Param g place) here inside narrow =
       let same = eqb-true g.0 f (not-false (nat_eq g.0 f) inside) in
@@ -156,6 +163,9 @@ module _ (m : Module) (f : ℕ) (x : FunctionData) (sound : IsModule m) (at : sl
   const_inside c h None e = refl
   const_inside c h (Some (C.Int t value)) e = refl
   const_inside c h (Some (C.Filled fill t)) e = refl
+  const_inside c h (Some (C.Bytes t bytes)) e = refl
+  const_inside c h (Some (C.List t elements)) e = refl
+  const_inside c h (Some (C.Splat t element)) e = refl
   const_inside c h (Some (C.Placeholder number t)) e = absurd (rw (placeholder_const_of m c number t e) at h)
 
   -- an operand of the function is not outside
@@ -182,13 +192,13 @@ module _ (m : Module) (f : ℕ) (x : FunctionData) (sound : IsModule m) (at : sl
       let rest = types_same vs (All-tail (IsValue m) v vs here) inside.1 in
       cc
 
-  pub values_stand : (vs : List LLVMValue) → All (IsValue m) vs → list_any (is_outside m (numbered f)) vs ≡ false → All IsFirstClassHere (map (operand_of (trees_of m)) vs) → All (IsOperandOf (shown m f x)) (map (operand_of (trees_of m)) vs)
+  pub values_stand : (vs : List LLVMValue) → All (IsValue m) vs → list_any (is_outside m (numbered f)) vs ≡ false → All IsNarrowHere (map (operand_of (trees_of m)) vs) → All (IsOperandOf (shown m f x)) (map (operand_of (trees_of m)) vs)
   values_stand [] here none narrow = All-nil (IsOperandOf (shown m f x))
   values_stand (v ∷ vs) here none narrow =
       let o = operand_of (trees_of m) v in
       let os = map (operand_of (trees_of m)) vs in
       let inside = or_parts (is_outside m (numbered f) v) (list_any (is_outside m (numbered f)) vs) none in
-      All-cons (IsOperandOf (shown m f x)) o os (value_stands v (All-head (IsValue m) v vs here) inside.0 (All-head IsFirstClassHere o os narrow)) (values_stand vs (All-tail (IsValue m) v vs here) inside.1 (All-tail IsFirstClassHere o os narrow))
+      All-cons (IsOperandOf (shown m f x)) o os (value_stands v (All-head (IsValue m) v vs here) inside.0 (All-head IsNarrowHere o os narrow)) (values_stand vs (All-tail (IsValue m) v vs here) inside.1 (All-tail IsNarrowHere o os narrow))
 
   pub values_inside : (vs : List LLVMValue) → All (IsOperandOf (shown m f x)) (map (operand_of (trees_of m)) vs) → list_any (is_outside m (numbered f)) vs ≡ false
   values_inside [] stand = refl

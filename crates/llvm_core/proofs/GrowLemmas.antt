@@ -1,5 +1,6 @@
 -- What is right in a module stays right in one that has more.
-use Rattle.std.proofs.Common.{◌≡◌, ◌<◌, ◌≤◌, ℕ, List, [], Option, Some, None, length, slice_get, sym, ap, ◌∙◌, refl, arith, subst, ◌++◌}
+use Rattle.std.proofs.Common.{◌≡◌, ◌<◌, ◌≤◌, ℕ, Bool, true, if◌then◌else◌, bytes_eq, List, [], Option, Some, None, length, slice_get, sym, ap, ◌∙◌, refl, arith, subst, ◌++◌}
+use Rattle.std.specs.List.{find}
 use Rattle.std.specs.Option.{option_map, option_map_or}
 use Rattle.std.proofs.lemmas.List.Elements.{All-weaker}
 use Rattle.std.proofs.lemmas.List.{append-nil}
@@ -15,6 +16,7 @@ use Rattle.llvm_core.specs.declared.types.ResultType.{ResultType}
 use Rattle.llvm_core.specs.declared.types.ResultType.TheVariants as R
 use Rattle.llvm_core.specs.declared.consts.LLVMConstKind.{LLVMConstKind}
 use Rattle.llvm_core.specs.declared.consts.LLVMConstKind.TheVariants as C
+use Rattle.llvm_core.specs.declared.structs.StructData.{StructData}
 use Rattle.llvm_core.specs.declared.code.LLVMValue.{LLVMValue}
 use Rattle.llvm_core.specs.declared.code.LLVMValue.TheVariants as V
 use Rattle.llvm_core.specs.declared.code.PhiEntry.{PhiEntry}
@@ -25,10 +27,15 @@ use Rattle.llvm_core.specs.declared.code.BlockData.{BlockData}
 use Rattle.llvm_core.specs.declared.code.InstData.{InstData}
 use Rattle.llvm_core.specs.Module.{Module}
 use Rattle.llvm_core.specs.Code.{param_names}
-use Rattle.llvm_core.specs.Parts.{IsConstOver, IsFunctionType, IsValue, HasValues, IsBlock, IsEntry, const_type, type_params, kind_params, param_types, value_type, result_type, IsResultType, type_nth, view_nth, view, shape_of, shape_at}
-use Rattle.std.proofs.Common.{All, zero, suc, ◌∷◌}
+use Rattle.llvm_core.specs.Consts.{IsElement, AreElements, IsListOf, IsLaneOf, IsConstIn, IsMadeBelow, told, fill_of, int_of, is_byte_array, list_form, form_over}
+use Rattle.llvm_core.specs.Parts.{IsTypeOver, IsFunctionType, IsValue, HasValues, IsBlock, IsEntry, const_type, type_params, kind_params, param_types, value_type, result_type, IsResultType, type_nth, view_nth, view, shape_of, shape_at, is_kind}
+use Rattle.std.proofs.Common.{All, zero, suc, ◌∷◌, nat_eq, false}
+use Rattle.std.proofs.lemmas.Option.{slice_get_within, same_Some}
+use Rattle.kinds.specs.Fitting.{width_of}
+use Rattle.kinds.specs.declared.types.VectorTypeKind.TheVariants as N
+use Rattle.llvm_core.specs.declared.numbers.LLVMConst.{LLVMConst}
 use Rattle.std.specs.Prelude.{IfSome}
-use Rattle.std.proofs.lemmas.List.Elements.{All-head, All-tail}
+use Rattle.std.proofs.lemmas.List.Elements.{All-head, All-tail, All-nil, All-cons}
 use Rattle.kinds.specs.Fill.{is_own_fill}
 use Rattle.kinds.specs.declared.fitting.Shape.{Shape}
 use Rattle.kinds.specs.declared.fitting.Shape.TheVariants as S
@@ -58,6 +65,7 @@ inst_type x = x.ty
 pub record Grows (m n : Module) : Type 0 where
   pub types : (i : ℕ) (k : LLVMTypeKind) → slice_get m.types i ≡ Some k → slice_get n.types i ≡ Some k
   pub consts : (i : ℕ) (k : LLVMConstKind) → slice_get m.consts i ≡ Some k → slice_get n.consts i ≡ Some k
+  pub structs : (i : ℕ) (x : StructData) → slice_get m.structs i ≡ Some x → slice_get n.structs i ≡ Some x
   pub function_types : KeepsTypes function_type m.functions n.functions
   pub inst_types : KeepsTypes inst_type m.insts n.insts
   pub type_count : length m.types ≤ length n.types
@@ -74,10 +82,118 @@ pub record Grows (m n : Module) : Type 0 where
 same_shape : (m n : Module) → Grows m n → (t : LLVMType) → t.0 < length m.types → shape_at n.types t ≡ shape_at m.types t
 same_shape m n g t within = let k = item_there m.types t.0 within in ap (λ o. option_map_or shape_of o S.Void) (g.types t.0 k.0 k.1 ∙ sym k.1)
 
-pub const_kept : (m n : Module) → Grows m n → (k : LLVMConstKind) → IsConstOver m.types k → IsConstOver n.types k
-const_kept m n g (C.Int t v) h = (h.0, g.types t.0 _ h.1, h.2)
-const_kept m n g (C.Filled fill t) h = (omega (arith, g.type_count, h.0), ap (is_own_fill fill) (same_shape m n g t h.0) ∙ h.1)
-const_kept m n g (C.Placeholder number t) h = omega (arith, g.type_count, h)
+element_kept : (m n : Module) → Grows m n → (t : LLVMType) (c : LLVMConst) → IsElement m.consts t c → IsElement n.consts t c
+element_kept m n g t c (k, at, h) = (k, g.consts c.0 k at, h)
+
+-- what is found in a list is found in one that goes on from it
+find_kept : {X : Type 0} (p : X → Bool) (xs ys : List X) → ((i : ℕ) (x : X) → slice_get xs i ≡ Some x → slice_get ys i ≡ Some x) → (s : X) → find p xs ≡ Some s → find p ys ≡ Some s
+find_kept p [] ys goes s h = cc
+find_kept p (x ∷ xs) [] goes s h = let none = goes 0 x refl in absurd cc
+find_kept {X = X} p (x ∷ xs) (y ∷ ys) goes s h =
+    ap (λ (z : X). if p z then Some z else find p ys) (same_Some y x (goes 0 x refl)) ∙ by (p x) (find_kept p xs ys (λ i z at. goes (suc i) z at) s) h
+  where
+    by : (b : Bool) → (find p xs ≡ Some s → find p ys ≡ Some s) → (if b then Some x else find p xs) ≡ Some s → (if b then Some x else find p ys) ≡ Some s
+    by true rest h = h
+    by false rest h = rest h
+
+elements_kept : (m n : Module) → Grows m n → (k : LLVMTypeKind) (ts : List LLVMType) → AreElements m.structs k ts → AreElements n.structs k ts
+elements_kept m n g T.Void ts h = h
+elements_kept m n g (T.Int width) ts h = h
+elements_kept m n g (T.Ptr space) ts h = h
+elements_kept m n g (T.Floating of) ts h = h
+elements_kept m n g (T.Other of) ts h = h
+elements_kept m n g (T.Array count t) ts h = h
+elements_kept m n g (T.Vector N.Fixed count t) ts h = h
+elements_kept m n g (T.Vector N.Scalable count t) ts h = h
+elements_kept m n g (T.Literal fields layout) ts h = h
+elements_kept m n g (T.Named name) ts (s, b, found, body, is) = (s, b, find_kept (λ (x : StructData). bytes_eq x.name name) m.structs n.structs g.structs s found, body, is)
+elements_kept m n g (T.Function result params variadic) ts h = h
+
+list_kept : (m n : Module) → Grows m n → (t : LLVMType) (cs : List LLVMConst) → IsListOf m.types m.consts m.structs t cs → IsListOf n.types n.consts n.structs t cs
+list_kept m n g t cs h = record {
+  kind = h.kind;
+  parts = h.parts;
+  typed = g.types t.0 h.kind h.typed;
+  fit = elements_kept m n g h.kind h.parts h.fit;
+  count = h.count;
+  each = λ i c u at typed. element_kept m n g u c (h.each i c u at typed);
+}
+
+-- each element of a list is there
+pub element_there : (m : Module) (t : LLVMType) (cs : List LLVMConst) → IsListOf m.types m.consts m.structs t cs → (i : ℕ) (c : LLVMConst) → slice_get cs i ≡ Some c → (k : LLVMConstKind) × (slice_get m.consts c.0 ≡ Some k)
+element_there m t cs h i c at =
+    let lt = slice_get_within cs i c at in
+    let u = item_there h.parts i (omega (arith, h.count, lt)) in
+    let e = h.each i c u.0 at u.1 in
+    (e.0, e.1)
+
+told_kept : {X : Type 0} (f : LLVMConstKind → Option X) (xs ys : List LLVMConstKind) → ((i : ℕ) (k : LLVMConstKind) → slice_get xs i ≡ Some k → slice_get ys i ≡ Some k)
+    → (cs : List LLVMConst) → ((i : ℕ) (c : LLVMConst) → slice_get cs i ≡ Some c → (k : LLVMConstKind) × (slice_get xs c.0 ≡ Some k)) → told f ys cs ≡ told f xs cs
+told_kept f xs ys kept [] there = refl
+told_kept f xs ys kept (c ∷ cs) there =
+    let k = there 0 c refl in
+    let first : slice_get ys c.0 ≡ slice_get xs c.0 = kept c.0 k.0 k.1 ∙ sym k.1 in
+    let rest = told_kept f xs ys kept cs (λ i d at. there (suc i) d at) in
+    cc
+
+-- whether it is an array of integers of 8 bits stays
+byte_array_kept : (m n : Module) → Grows m n → IsModule m → (t : LLVMType) (k : LLVMTypeKind) → slice_get m.types t.0 ≡ Some k → is_kind (is_byte_array n.types) n.types t ≡ is_kind (is_byte_array m.types) m.types t
+byte_array_kept m n g s t k at = ap (λ o. option_map_or (is_byte_array n.types) o false) (g.types t.0 k at) ∙ by k (s.types t.0 k at) ∙ ap (λ o. option_map_or (is_byte_array m.types) o false) (sym at)
+  where
+    there : t.0 < length m.types
+    there = slice_get_within m.types t.0 k at
+
+    by : (k : LLVMTypeKind) → IsTypeOver t.0 k → is_byte_array n.types k ≡ is_byte_array m.types k
+    by (T.Array count e) over = ap (λ (s : Shape). nat_eq (width_of s) 8) (same_shape m n g e (omega (arith, over, there)))
+    by T.Void over = refl
+    by (T.Int width) over = refl
+    by (T.Ptr space) over = refl
+    by (T.Floating of) over = refl
+    by (T.Other of) over = refl
+    by (T.Vector kind count e) over = refl
+    by (T.Literal fields layout) over = refl
+    by (T.Named name) over = refl
+    by (T.Function result params variadic) over = refl
+
+pub list_form_kept : (m n : Module) → Grows m n → IsModule m → (t : LLVMType) (cs : List LLVMConst) → IsListOf m.types m.consts m.structs t cs → list_form n.types n.consts t cs ≡ list_form m.types m.consts t cs
+list_form_kept m n g s t cs h =
+    let fills = told_kept fill_of m.consts n.consts g.consts cs (element_there m t cs h) in
+    let ints = told_kept int_of m.consts n.consts g.consts cs (element_there m t cs h) in
+    let bytes = byte_array_kept m n g s t h.kind h.typed in
+    cc
+
+splat_form_kept : (m n : Module) → Grows m n → (t : LLVMType) (c : LLVMConst) → IsLaneOf m.types m.consts m.structs t c → form_over n.types n.consts (C.Splat t c) ≡ form_over m.types m.consts (C.Splat t c)
+splat_form_kept m n g t c (count, e, at, (k, here, fits)) =
+    let same : slice_get n.consts c.0 ≡ slice_get m.consts c.0 = g.consts c.0 k here ∙ sym here in
+    cc
+
+pub const_kept : (m n : Module) → Grows m n → IsModule m → (k : LLVMConstKind) → IsConstIn m k → IsConstIn n k
+const_kept m n g s (C.Int t v) h = (h.0, g.types t.0 _ h.1, h.2)
+const_kept m n g s (C.Filled fill t) h = (omega (arith, g.type_count, h.0), ap (is_own_fill fill) (same_shape m n g t h.0) ∙ h.1)
+const_kept m n g s (C.Bytes t bytes) (((e, at, byte), few), form) = (((e, g.types t.0 _ at, g.types e.0 _ byte), few), form)
+const_kept m n g s (C.List t elements) h = (list_kept m n g t elements h.0, list_form_kept m n g s t elements h.0 ∙ h.1)
+const_kept m n g s (C.Splat t element) ((count, e, at, is), form) =
+    ((count, e, g.types t.0 _ at, element_kept m n g e element is), splat_form_kept m n g t element (count, e, at, is) ∙ form)
+const_kept m n g s (C.Placeholder number t) h = omega (arith, g.type_count, h)
+
+all_within : (m : Module) (cs : List LLVMConst) → ((i : ℕ) (c : LLVMConst) → slice_get cs i ≡ Some c → (k : LLVMConstKind) × (slice_get m.consts c.0 ≡ Some k)) → All (λ (c : LLVMConst). c.0 < length m.consts) cs
+all_within m [] there = All-nil (λ (c : LLVMConst). c.0 < length m.consts)
+all_within m (c ∷ cs) there =
+    let k = there 0 c refl in
+    All-cons (λ (c : LLVMConst). c.0 < length m.consts) c cs (slice_get_within m.consts c.0 k.0 k.1) (all_within m cs (λ i d at. there (suc i) d at))
+
+-- the elements of a list are there
+pub elements_within : (m : Module) (t : LLVMType) (cs : List LLVMConst) → IsListOf m.types m.consts m.structs t cs → All (λ (c : LLVMConst). c.0 < length m.consts) cs
+elements_within m t cs h = all_within m cs (element_there m t cs h)
+
+-- what a constant of a module is made of is there
+pub made_below : (m : Module) (k : LLVMConstKind) → IsConstIn m k → IsMadeBelow (length m.consts) k
+made_below m (C.Int t v) h = tt
+made_below m (C.Filled fill t) h = tt
+made_below m (C.Bytes t bytes) h = tt
+made_below m (C.List t elements) h = elements_within m t elements h.0
+made_below m (C.Splat t element) ((count, e, at, (k, here, fits)), form) = slice_get_within m.consts element.0 k here
+made_below m (C.Placeholder number t) h = tt
 
 pub params_kept : (m n : Module) → Grows m n → (t : LLVMType) → IsFunctionType m.types t → type_params m.types t ≡ type_params n.types t
 params_kept m n g t h = ap (λ o. option_map_or kind_params o []) (h.1 ∙ sym (g.types t.0 h.0 h.1))

@@ -6,11 +6,12 @@ use Rattle.support.proofs.InternedLaws.{interned_by, distinct_list}
 use Rattle.llvm_core.specs.declared.types.LLVMTypeKind.{LLVMTypeKind}
 use Rattle.llvm_core.specs.declared.types.LLVMTypeKind.TheVariants as T
 use Rattle.llvm_core.specs.declared.consts.LLVMConstKind.{LLVMConstKind}
+use Rattle.llvm_core.specs.declared.consts.LLVMConstKind.TheVariants as C
 use Rattle.llvm_core.specs.contracts.types.LLVMTypeKindPartialEq.TheImpl as types
 use Rattle.llvm_core.specs.contracts.types.LLVMTypeKindEq.TheImpl.Laws as type_eq
 use Rattle.llvm_core.specs.contracts.consts.LLVMConstKindPartialEq.TheImpl as consts
 use Rattle.llvm_core.specs.contracts.consts.LLVMConstKindEq.TheImpl.Laws as const_eq
-use Rattle.llvm_core.specs.Keys.{same_types, same_text}
+use Rattle.llvm_core.specs.Keys.{same_types, same_consts, same_text}
 use Rattle.support.specs.Interned.{InternedBy, Interned, IsDistinctList}
 
 -- ---- types
@@ -33,6 +34,8 @@ distinct_types = distinct_list types.eq-value.it kind_decides
 -- ---- constants
 
 pub same_const : (a b : LLVMConstKind) → consts.eq-value.it a b ≡ true → a ≡ b
+same_const (C.List t xs) (C.List u ys) h = grind (arith, same_consts xs ys)
+same_const (C.Bytes t xs) (C.Bytes u ys) h = grind (arith, same_text xs ys)
 same_const a b h = grind arith
 
 const_decides : (a b : LLVMConstKind) → Decides (consts.eq-value.it a b) (a ≡ b)

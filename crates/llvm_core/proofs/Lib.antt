@@ -49,3 +49,6 @@ pub mod BodySound
 pub mod BodyData
 pub mod BodyTypes
 pub mod OneForm
+pub mod FormSteps
+pub mod FormTrees
+pub mod KeptLaws

@@ -24,12 +24,13 @@ use Rattle.llvm_core.specs.declared.code.InstData.{InstData}
 use Rattle.support.specs.Interned.{Interned, IsDistinctList}
 use Rattle.llvm_core.specs.Module.{Module}
 use Rattle.llvm_core.specs.Code.{code_of, with_code, with_param_name, with_block, with_inst, param_names}
-use Rattle.llvm_core.specs.Parts.{IsTypeOver, HasFitParts, shape_at, IsConstOver, IsFunctionType, HasValues, IsResultType, kind_params, made_kind, result_type}
+use Rattle.llvm_core.specs.Consts.{IsConstIn, IsMadeBelow}
+use Rattle.llvm_core.specs.Parts.{IsTypeOver, HasFitParts, shape_at, IsFunctionType, HasValues, IsResultType, kind_params, made_kind, result_type}
 use Rattle.llvm_core.specs.Sound.{IsFunctionIn, OwnsBlocks, OwnsInsts, StandsFor, IsModule}
 use Rattle.support.proofs.ListLaws.{slice_get-kept, slice_get-push, slice_get-push_cases, change_cases, distinct_nil, distinct_push, length-with_change, length-slice_set}
 use Rattle.llvm_core.proofs.DataLemmas.{within_at}
 use Rattle.llvm_core.proofs.StructLemmas.{shape_stays, structs_kept}
-use Rattle.llvm_core.proofs.GrowLemmas.{blocks_of, insts_of, KeepsTypes, function_type, inst_type, Grows, const_kept, function_kept, block_kept, inst_kept, values_kept, result_kept, listed_block_kept, listed_inst_kept}
+use Rattle.llvm_core.proofs.GrowLemmas.{blocks_of, insts_of, KeepsTypes, function_type, inst_type, Grows, const_kept, made_below, function_kept, block_kept, inst_kept, values_kept, result_kept, listed_block_kept, listed_inst_kept}
 use Rattle.llvm_core.proofs.ListedLemmas.{same_keeps, push_keeps, kept_or_changed, change_keeps, changed_there}
 
 -- ---- types of functions and instructions
@@ -49,6 +50,7 @@ types_grow : (m : Module) (types : List LLVMTypeKind) (k : LLVMTypeKind) (n : �
 types_grow m types k n h = record {
   types = interned_kept m.types types k n h;
   consts = λ i x e. e;
+  structs = λ i x e. e;
   function_types = same_types function_type m.functions;
   inst_types = same_types inst_type m.insts;
   type_count = interned_longer m.types types k n h;
@@ -92,7 +94,8 @@ type_added m types k n s ok fit h once =
         | inr new ↦ subst (HasFitParts m.types) (sym new.1) fit
       ]);
       types_once = once;
-      consts = λ i x e. const_kept m _ g x (s.consts i x e);
+      consts = λ i x e. const_kept m _ g s x (s.consts i x e);
+      consts_below = s.consts_below;
       consts_once = s.consts_once;
       structs = structs_kept m.types types g.type_count g.types m.structs s.structs;
       functions = λ f x e. function_kept m _ g x (s.functions f x e);
@@ -104,12 +107,13 @@ type_added m types k n s ok fit h once =
       owned_insts = s.owned_insts;
     }
 
-pub const_added : (m : Module) (consts : List LLVMConstKind) (k : LLVMConstKind) (n : ℕ) → IsModule m → IsConstOver m.types k → Interned m.consts consts k n → IsDistinctList consts → IsModule (record m { consts = consts })
+pub const_added : (m : Module) (consts : List LLVMConstKind) (k : LLVMConstKind) (n : ℕ) → IsModule m → IsConstIn m k → Interned m.consts consts k n → IsDistinctList consts → IsModule (record m { consts = consts })
 const_added m consts k n s ok h once =
     let longer = interned_longer m.consts consts k n h in
     let g : Grows m (record m { consts = consts }) = record {
       types = λ i x e. e;
       consts = interned_kept m.consts consts k n h;
+      structs = λ i x e. e;
       function_types = same_types function_type m.functions;
       inst_types = same_types inst_type m.insts;
       type_count = omega arith;
@@ -125,9 +129,13 @@ const_added m consts k n s ok h once =
       types = s.types;
       types_fit = s.types_fit;
       types_once = s.types_once;
-      consts = λ i x e. elim (interned_cases m.consts consts k n h i x e) [
+      consts = λ i x e. const_kept m _ g s x (elim (interned_cases m.consts consts k n h i x e) [
         | inl old ↦ s.consts i x old
-        | inr new ↦ subst (IsConstOver m.types) (sym new.1) ok
+        | inr new ↦ subst (IsConstIn m) (sym new.1) ok
+      ]);
+      consts_below = λ i x e. elim (interned_cases m.consts consts k n h i x e) [
+        | inl old ↦ s.consts_below i x old
+        | inr new ↦ subst (λ j. IsMadeBelow j x) (sym new.0) (subst (IsMadeBelow (length m.consts)) (sym new.1) (made_below m k ok))
       ];
       consts_once = once;
       structs = s.structs;
@@ -217,6 +225,7 @@ function_added m x s ok none =
     let g : Grows m (record m { functions = m.functions ++ x ∷ [] }) = record {
       types = λ i x e. e;
       consts = λ i x e. e;
+      structs = λ i x e. e;
       function_types = push_types function_type m.functions x;
       inst_types = same_types inst_type m.insts;
       type_count = omega arith;
@@ -233,6 +242,7 @@ function_added m x s ok none =
       types_fit = s.types_fit;
       types_once = s.types_once;
       consts = s.consts;
+      consts_below = s.consts_below;
       consts_once = s.consts_once;
       structs = s.structs;
       functions = λ f y e. elim (slice_get-push_cases m.functions x f y e) [
@@ -281,6 +291,7 @@ param_named m f place name s =
     let g : Grows m (with_code m (with_param_name (code_of m) f place name)) = record {
       types = λ i x e. e;
       consts = λ i x e. e;
+      structs = λ i x e. e;
       function_types = change_types function_type change (λ x. refl) f.0 m.functions;
       inst_types = same_types inst_type m.insts;
       type_count = omega arith;
@@ -297,6 +308,7 @@ param_named m f place name s =
       types_fit = s.types_fit;
       types_once = s.types_once;
       consts = s.consts;
+      consts_below = s.consts_below;
       consts_once = s.consts_once;
       structs = s.structs;
       functions = λ j y e. elim (change_cases change f.0 m.functions j y e) [
@@ -323,6 +335,7 @@ block_added m f b name s there last =
     let g : Grows m (with_code m (with_block (code_of m) f b name)) = record {
       types = λ i x e. e;
       consts = λ i x e. e;
+      structs = λ i x e. e;
       function_types = change_types function_type change (λ x. refl) f.0 m.functions;
       inst_types = same_types inst_type m.insts;
       type_count = omega arith;
@@ -339,6 +352,7 @@ block_added m f b name s there last =
       types_fit = s.types_fit;
       types_once = s.types_once;
       consts = s.consts;
+      consts_below = s.consts_below;
       consts_once = s.consts_once;
       structs = s.structs;
       functions = λ j y e. elim (change_cases change f.0 m.functions j y e) [
@@ -378,6 +392,7 @@ inst_added m b i name ty inst s there last typed result values =
     let g : Grows m (with_code m (with_inst (code_of m) b i name ty inst)) = record {
       types = λ i x e. e;
       consts = λ i x e. e;
+      structs = λ i x e. e;
       function_types = same_types function_type m.functions;
       inst_types = push_types inst_type m.insts new;
       type_count = omega arith;
@@ -394,6 +409,7 @@ inst_added m b i name ty inst s there last typed result values =
       types_fit = s.types_fit;
       types_once = s.types_once;
       consts = s.consts;
+      consts_below = s.consts_below;
       consts_once = s.consts_once;
       structs = s.structs;
       functions = λ f x e. function_kept m _ g x (s.functions f x e);
@@ -440,6 +456,7 @@ retyped_grows : (m : Module) (types : List LLVMTypeKind) (k : LLVMTypeKind) → 
 retyped_grows m types k h = record {
   types = λ i x e. elim h [ inl same ↦ rw same e | inr more ↦ rw more (slice_get-kept m.types (k ∷ []) i x e) ];
   consts = λ i x e. e;
+  structs = λ i x e. e;
   function_types = same_types function_type m.functions;
   inst_types = same_types inst_type m.insts;
   type_count = elim h [ inl same ↦ omega (arith, ap length same) | inr more ↦ omega (arith, ap length more ∙ length-append m.types (k ∷ [])) ];

@@ -3,6 +3,7 @@ use Rattle.std.proofs.Common.{◌≡◌, ℕ, List, [], ◌∷◌, ◌++◌, Opt
 use Rattle.std.specs.Prelude.{IfSome}
 use Rattle.std.specs.Option.{option_map}
 use Rattle.std.proofs.lemmas.List.{map-append}
+use Rattle.support.proofs.ListLaws.{slice_get-kept}
 use Rattle.std.proofs.lemmas.List.Elements.{All-push}
 use Rattle.llvm_core.specs.declared.structs.StructFields.{StructFields}
 use Rattle.llvm_core.specs.declared.structs.StructData.{StructData}
@@ -13,12 +14,13 @@ use Rattle.llvm_core.specs.Data.{trees_of, fields_of, struct_of, data_of}
 use Rattle.llvm_core.proofs.DataLemmas.{within_at}
 use Rattle.llvm_core.proofs.ListedLemmas.{same_keeps}
 use Rattle.llvm_core.proofs.SoundLemmas.{same_types}
-use Rattle.llvm_core.proofs.GrowLemmas.{blocks_of, insts_of, function_type, inst_type, Grows, function_kept, block_kept, inst_kept, listed_block_kept, listed_inst_kept}
+use Rattle.llvm_core.proofs.GrowLemmas.{blocks_of, insts_of, function_type, inst_type, Grows, const_kept, function_kept, block_kept, inst_kept, listed_block_kept, listed_inst_kept}
 
-same_but_structs : (m : Module) (structs : List StructData) → Grows m (record m { structs = structs })
-same_but_structs m structs = record {
+same_but_structs : (m : Module) (x : StructData) → Grows m (record m { structs = m.structs ++ x ∷ [] })
+same_but_structs m x = record {
   types = λ i k e. e;
   consts = λ i k e. e;
+  structs = λ i s e. slice_get-kept m.structs (x ∷ []) i s e;
   function_types = same_types function_type m.functions;
   inst_types = same_types inst_type m.insts;
   type_count = omega arith;
@@ -33,12 +35,13 @@ same_but_structs m structs = record {
 
 pub struct_added : (m : Module) (x : StructData) → IsModule m → IsStructIn m.types x → IsModule (record m { structs = m.structs ++ x ∷ [] })
 struct_added m x s ok =
-    let g = same_but_structs m (m.structs ++ x ∷ []) in
+    let g = same_but_structs m x in
     record {
       types = s.types;
       types_fit = s.types_fit;
       types_once = s.types_once;
-      consts = s.consts;
+      consts = λ i k e. const_kept m _ g s k (s.consts i k e);
+      consts_below = s.consts_below;
       consts_once = s.consts_once;
       structs = All-push (IsStructIn m.types) m.structs x s.structs ok;
       functions = λ f x e. function_kept m _ g x (s.functions f x e);

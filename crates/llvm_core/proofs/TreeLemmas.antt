@@ -1,16 +1,18 @@
 -- Trees by number: a list that grows keeps them, and the tree at a number is that of the kind there.
 use Rattle.std.proofs.Common.{◌≡◌, ◌<◌, ◌+◌, ℕ, zero, suc, List, [], ◌∷◌, ◌++◌, Some, length, slice_get, get_or, ap, sym, ◌∙◌, refl, arith, length-append, All}
 use Rattle.std.proofs.lemmas.List.Elements.{All-head, All-tail}
-use Rattle.std.proofs.lemmas.Option.{slice_get_within, same_Some}
+use Rattle.std.proofs.lemmas.Option.{same_Some}
 use Rattle.std.proofs.Math.ListN.{get_or-append}
 use Rattle.llvm_core.specs.declared.numbers.LLVMType.{LLVMType}
+use Rattle.llvm_core.specs.declared.numbers.LLVMConst.{LLVMConst}
 use Rattle.llvm_core.specs.declared.types.LLVMTypeKind.{LLVMTypeKind}
 use Rattle.llvm_core.specs.declared.types.LLVMTypeKind.TheVariants as T
 use Rattle.llvm_core.specs.declared.consts.LLVMConstKind.{LLVMConstKind}
 use Rattle.llvm_core.specs.declared.consts.LLVMConstKind.TheVariants as C
 use Rattle.kinds.specs.Held.{width_in}
-use Rattle.llvm_core.specs.Parts.{IsTypeOver, IsConstOver}
-use Rattle.llvm_core.specs.Data.{TypeTree, VoidType, ArrayType, VectorType, StructType, ConstTree, IntConst, FilledConst, PlaceholderConst, trees_after, type_at, types_at, type_tree, type_trees, const_tree, const_trees}
+use Rattle.llvm_core.specs.Consts.{IsMadeBelow}
+use Rattle.llvm_core.specs.Parts.{IsTypeOver, const_type}
+use Rattle.llvm_core.specs.Data.{TypeTree, VoidType, ArrayType, VectorType, StructType, ConstTree, IntConst, FilledConst, ListConst, SplatConst, PlaceholderConst, trees_after, const_at, consts_at, type_at, types_at, type_tree, type_trees, const_tree, const_trees}
 
 -- ---- of any kind, whose tree is told by the trees of its parts
 
@@ -84,19 +86,22 @@ type_at-kept ks ls t lt =
 
 -- ---- constants
 
-same_const_tree : (types : List LLVMTypeKind) (ts us : List TypeTree) → ((t : LLVMType) → t.0 < length types → type_at ts t ≡ type_at us t) → (cs : List ConstTree) (k : LLVMConstKind) → IsConstOver types k → const_tree ts cs k ≡ const_tree us cs k
-same_const_tree types ts us same cs (C.Int t v) h = ap (λ (x : TypeTree). IntConst (width_in x) v) (same t (slice_get_within types t.0 _ h.1))
-same_const_tree types ts us same cs (C.Filled fill t) h = ap (FilledConst fill) (same t h.0)
+same_const_tree : (types : List LLVMTypeKind) (ts us : List TypeTree) → ((t : LLVMType) → t.0 < length types → type_at ts t ≡ type_at us t) → (cs : List ConstTree) (k : LLVMConstKind) → (const_type k).0 < length types → const_tree ts cs k ≡ const_tree us cs k
+same_const_tree types ts us same cs (C.Int t v) h = ap (λ (x : TypeTree). IntConst (width_in x) v) (same t h)
+same_const_tree types ts us same cs (C.Filled fill t) h = ap (FilledConst fill) (same t h)
+same_const_tree types ts us same cs (C.Bytes t bytes) h = refl
+same_const_tree types ts us same cs (C.List t elements) h = ap (λ (x : TypeTree). ListConst x (consts_at cs elements)) (same t h)
+same_const_tree types ts us same cs (C.Splat t element) h = ap (λ (x : TypeTree). SplatConst x (const_at cs element)) (same t h)
 same_const_tree types ts us same cs (C.Placeholder number t) h = ap (PlaceholderConst number) (same t h)
 
-consts_after : (types : List LLVMTypeKind) (ts us : List TypeTree) → ((t : LLVMType) → t.0 < length types → type_at ts t ≡ type_at us t) → (done : List ConstTree) (ks : List LLVMConstKind) → ((i : ℕ) (k : LLVMConstKind) → slice_get ks i ≡ Some k → IsConstOver types k) → trees_after (const_tree ts) done ks ≡ trees_after (const_tree us) done ks
+consts_after : (types : List LLVMTypeKind) (ts us : List TypeTree) → ((t : LLVMType) → t.0 < length types → type_at ts t ≡ type_at us t) → (done : List ConstTree) (ks : List LLVMConstKind) → ((i : ℕ) (k : LLVMConstKind) → slice_get ks i ≡ Some k → (const_type k).0 < length types) → trees_after (const_tree ts) done ks ≡ trees_after (const_tree us) done ks
 consts_after types ts us same done [] ok = refl
 consts_after types ts us same done (k ∷ ks) ok =
     ap (λ x. trees_after (const_tree ts) (done ++ x ∷ []) ks) (same_const_tree types ts us same done k (ok 0 k refl))
     ∙ consts_after types ts us same (done ++ const_tree us done k ∷ []) ks (λ i l at. ok (suc i) l at)
 
 -- more types leave the trees of constants
-pub const_trees-retyped : (types more : List LLVMTypeKind) (ks : List LLVMConstKind) → ((i : ℕ) (k : LLVMConstKind) → slice_get ks i ≡ Some k → IsConstOver types k) → const_trees (type_trees (types ++ more)) ks ≡ const_trees (type_trees types) ks
+pub const_trees-retyped : (types more : List LLVMTypeKind) (ks : List LLVMConstKind) → ((i : ℕ) (k : LLVMConstKind) → slice_get ks i ≡ Some k → (const_type k).0 < length types) → const_trees (type_trees (types ++ more)) ks ≡ const_trees (type_trees types) ks
 const_trees-retyped types more ks ok = consts_after types (type_trees (types ++ more)) (type_trees types) (type_at-kept types more) [] ks ok
 
 pub const_at-kept : (ts : List TypeTree) (ks ls : List LLVMConstKind) (c : ℕ) → c < length ks → get_or (const_trees ts (ks ++ ls)) c (IntConst 0 0) ≡ get_or (const_trees ts ks) c (IntConst 0 0)
@@ -104,10 +109,21 @@ const_at-kept ts ks ls c lt =
     ap (λ cs. get_or cs c (IntConst 0 0)) (after-append (const_tree ts) (IntConst 0 0) [] ks ls)
     ∙ kept (const_tree ts) (IntConst 0 0) (const_trees ts ks) ls c (omega (arith, length-after (const_tree ts) (IntConst 0 0) [] ks))
 
-same_parts : (ts : List TypeTree) (cs ds : List ConstTree) (n : ℕ) → ((j : ℕ) → j < n → get_or cs j (IntConst 0 0) ≡ get_or ds j (IntConst 0 0)) → (k : LLVMConstKind) → Unit {0} → const_tree ts cs k ≡ const_tree ts ds k
+same_consts_at : (cs ds : List ConstTree) (n : ℕ) → ((j : ℕ) → j < n → get_or cs j (IntConst 0 0) ≡ get_or ds j (IntConst 0 0)) → (xs : List LLVMConst) → All (λ (c : LLVMConst). c.0 < n) xs → consts_at cs xs ≡ consts_at ds xs
+same_consts_at cs ds n same [] h = refl
+same_consts_at cs ds n same (x ∷ xs) h =
+    let e = same x.0 (All-head (λ (c : LLVMConst). c.0 < n) x xs h) in
+    let f = same_consts_at cs ds n same xs (All-tail (λ (c : LLVMConst). c.0 < n) x xs h) in
+    cc
+
+-- trees that agree below n agree on a constant that is made below n
+pub same_parts : (ts : List TypeTree) (cs ds : List ConstTree) (n : ℕ) → ((j : ℕ) → j < n → get_or cs j (IntConst 0 0) ≡ get_or ds j (IntConst 0 0)) → (k : LLVMConstKind) → IsMadeBelow n k → const_tree ts cs k ≡ const_tree ts ds k
 same_parts ts cs ds n same (C.Int t v) h = refl
 same_parts ts cs ds n same (C.Filled fill t) h = refl
+same_parts ts cs ds n same (C.Bytes t bytes) h = refl
+same_parts ts cs ds n same (C.List t elements) h = ap (ListConst (type_at ts t)) (same_consts_at cs ds n same elements h)
+same_parts ts cs ds n same (C.Splat t element) h = ap (SplatConst (type_at ts t)) (same element.0 h)
 same_parts ts cs ds n same (C.Placeholder number t) h = refl
 
-pub const_at-kind : (ts : List TypeTree) (ks : List LLVMConstKind) (c : ℕ) (k : LLVMConstKind) → slice_get ks c ≡ Some k → get_or (const_trees ts ks) c (IntConst 0 0) ≡ const_tree ts (const_trees ts ks) k
-const_at-kind ts ks c k at = at_number (const_tree ts) (IntConst 0 0) (λ n k. Unit {0}) (same_parts ts) [] ks c c k (omega arith) at tt
+pub const_at-kind : (ts : List TypeTree) (ks : List LLVMConstKind) (c : ℕ) (k : LLVMConstKind) → slice_get ks c ≡ Some k → IsMadeBelow c k → get_or (const_trees ts ks) c (IntConst 0 0) ≡ const_tree ts (const_trees ts ks) k
+const_at-kind ts ks c k at below = at_number (const_tree ts) (IntConst 0 0) IsMadeBelow (same_parts ts) [] ks c c k (omega arith) at below

@@ -19,7 +19,8 @@ use Rattle.llvm_core.specs.declared.code.FunctionData.{FunctionData}
 use Rattle.llvm_core.specs.declared.code.InstData.{InstData}
 use Rattle.llvm_core.specs.Module.{Module}
 use Rattle.llvm_core.specs.Code.{param_names}
-use Rattle.llvm_core.specs.Parts.{IsTypeOver, IsConstOver, IsValue, HasValues, IsResultOver, const_type, type_params, kind_params, param_types, value_type, result_type, given, row_fits, type_nth}
+use Rattle.llvm_core.specs.Consts.{IsConstIn}
+use Rattle.llvm_core.specs.Parts.{IsTypeOver, IsValue, HasValues, IsResultOver, const_type, type_params, kind_params, param_types, value_type, result_type, given, row_fits, type_nth}
 use Rattle.kinds.specs.declared.rules.Gives.{Gives}
 use Rattle.kinds.specs.declared.rules.Gives.TheVariants as G
 use Rattle.kinds.specs.Table.{rule_of}
@@ -28,10 +29,17 @@ use Rattle.std.specs.Prelude.{IfSome}
 use Rattle.std.proofs.lemmas.List.Elements.{All-head, All-tail}
 use Rattle.llvm_core.specs.Sound.{IsModule}
 
-pub const_type_within : (types : List LLVMTypeKind) (k : LLVMConstKind) → IsConstOver types k → (const_type k).0 < length types
-const_type_within types (C.Int t v) h = slice_get_within types t.0 _ h.1
-const_type_within types (C.Filled fill t) h = h.0
-const_type_within types (C.Placeholder number t) h = h
+pub const_type_within : (m : Module) (k : LLVMConstKind) → IsConstIn m k → (const_type k).0 < length m.types
+const_type_within m (C.Int t v) h = slice_get_within m.types t.0 _ h.1
+const_type_within m (C.Filled fill t) h = h.0
+const_type_within m (C.Bytes t bytes) h = slice_get_within m.types t.0 _ h.0.0.1
+const_type_within m (C.List t elements) h = slice_get_within m.types t.0 _ h.0.typed
+const_type_within m (C.Splat t element) h = slice_get_within m.types t.0 _ h.0.2
+const_type_within m (C.Placeholder number t) h = h
+
+-- of each constant of a module
+pub const_types_within : (m : Module) → IsModule m → (i : ℕ) (k : LLVMConstKind) → slice_get m.consts i ≡ Some k → (const_type k).0 < length m.types
+const_types_within m s i k at = const_type_within m k (s.consts i k at)
 
 pub param_within : (m : Module) (f : LLVMFunction) (place : ℕ) (x : FunctionData) (k : LLVMTypeKind) (d : LLVMType) → IsModule m
     → slice_get m.functions f.0 ≡ Some x → slice_get m.types x.ty.0 ≡ Some k → place < length (param_names m.functions f) → (get_or (kind_params k) place d).0 < length m.types
@@ -76,7 +84,7 @@ pub value_type_within : (m : Module) (v : LLVMValue) (t : LLVMType) → IsModule
 value_type_within m (V.Const c) t s h e =
     let k = item_there m.consts c.0 h in
     let same : const_type k.0 ≡ t = same_Some (const_type k.0) t (ap (option_map const_type) (sym k.1) ∙ e) in
-    let within = const_type_within m.types k.0 (s.consts c.0 k.0 k.1) in
+    let within = const_type_within m k.0 (s.consts c.0 k.0 k.1) in
     omega (arith, within, ap (λ (u : LLVMType). u.0) same)
 value_type_within m (V.Param f place) t s h e = param_type_within m f place t s h e
 value_type_within m (V.Inst i) t s h e =

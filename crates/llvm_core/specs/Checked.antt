@@ -8,8 +8,6 @@ use Rattle.llvm_core.specs.declared.numbers.LLVMBasicBlock.{LLVMBasicBlock}
 use Rattle.llvm_core.specs.declared.numbers.LLVMInstRef.{LLVMInstRef}
 use Rattle.llvm_core.specs.declared.types.LLVMTypeKind.{LLVMTypeKind}
 use Rattle.llvm_core.specs.declared.types.LLVMTypeKind.TheVariants as T
-use Rattle.llvm_core.specs.declared.consts.LLVMConstKind.{LLVMConstKind}
-use Rattle.llvm_core.specs.declared.consts.LLVMConstKind.TheVariants as C
 use Rattle.llvm_core.specs.declared.code.LLVMValue.{LLVMValue}
 use Rattle.llvm_core.specs.declared.code.LLVMValue.TheVariants as V
 use Rattle.llvm_core.specs.declared.code.PhiEntry.{PhiEntry}
@@ -33,6 +31,7 @@ use Rattle.llvm_core.specs.declared.check_err.CheckErr.TheVariants.{NameTwice, N
 use Rattle.llvm_core.specs.Module.{Module}
 use Rattle.llvm_core.specs.Names.{HasTwice}
 use Rattle.llvm_core.specs.Edges.{count_of, edge_count}
+use Rattle.llvm_core.specs.Consts.{is_placeholder}
 use Rattle.llvm_core.specs.Parts.{value_type, row_fits, is_function, is_kind, kind_params, shape_of, operands, is_phi}
 use Rattle.kinds.specs.Fitting.{is_nothing, is_value}
 use Rattle.kinds.specs.Held.{deepest}
@@ -202,11 +201,6 @@ MisfitsType m f (I.Row r) = misfits_row m f r ≡ true
 abbrev pub misfits_count : Module → LLVMFunction → LLVMInst → Bool
 misfits_count m f (I.Phi type entries) = false
 misfits_count m f (I.Row r) = not (is_counted m f r)
-
-abbrev pub is_placeholder : LLVMConstKind → Bool
-is_placeholder (C.Placeholder number type) = true
-is_placeholder (C.Int type value) = false
-is_placeholder (C.Filled fill type) = false
 
 -- a parameter or result of another function than f, or a placeholder
 abbrev pub is_outside : Module → LLVMFunction → LLVMValue → Bool

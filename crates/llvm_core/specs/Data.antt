@@ -1,6 +1,6 @@
 -- Module data: a module read as lists, with its types and constants as trees.
-use Rattle.std.specs.Prelude.{◌≡◌, ◌<◌, ℕ, zero, suc, length, if◌then◌else◌, nat_eq, List, [], ◌∷◌, ◌++◌, Option, Some, None, All, map, slice_get, slice_set, slice_index_or}
-use Rattle.std.specs.List.{filter_map, flat_map, find, enumerate_from}
+use Rattle.std.specs.Prelude.{◌≡◌, ◌<◌, ℕ, zero, suc, Bool, false, length, if◌then◌else◌, nat_eq, List, [], ◌∷◌, ◌++◌, Option, Some, None, All, map, slice_get, slice_set, slice_index_or}
+use Rattle.std.specs.List.{filter_map, flat_map, find, enumerate_from, list_all}
 use Rattle.std.specs.Option.{option_map, option_map_or}
 use Rattle.support.specs.Changes.{with_change}
 use Rattle.llvm_core.specs.declared.numbers.LLVMType.{LLVMType}
@@ -23,6 +23,7 @@ use Rattle.kinds.specs.declared.op.Op.{Op}
 pub use Rattle.kinds.specs.Types.{TypeTree, VoidType, IntType, PointerType, FloatingType, RefusedType, ArrayType, VectorType, StructType, NamedType, FunctionType, TypeTrees, NoTypes, ThenType}
 pub use Rattle.kinds.specs.Structs.{StructBody, Struct}
 use Rattle.kinds.specs.declared.fill.Fill.{Fill}
+use Rattle.kinds.specs.declared.fill.Fill.TheVariants as F
 use Rattle.kinds.specs.Fill.{is_own_fill}
 use Rattle.kinds.specs.Types.{shape, takes_of}
 use Rattle.kinds.specs.Held.{width_in}
@@ -33,14 +34,26 @@ use Rattle.llvm_core.specs.declared.code.BlockData.{BlockData}
 use Rattle.llvm_core.specs.declared.code.InstData.{InstData}
 use Rattle.llvm_core.specs.Module.{Module}
 use Rattle.llvm_core.specs.Parts.{result_type}
+use Rattle.llvm_core.specs.Consts.{common_fill, all_ints, is_zero}
 
 -- ---- the data
 
--- a constant, a line for each kind
-pub data ConstTree : Type 0 where
-  IntConst : (width value : ℕ) → ConstTree
-  FilledConst : (fill : Fill) (type : TypeTree) → ConstTree
-  PlaceholderConst : (number : ℕ) (type : TypeTree) → ConstTree
+mutual
+  -- a constant, a line for each kind
+  pub data ConstTree : Type 0 where
+    IntConst : (width value : ℕ) → ConstTree
+    FilledConst : (fill : Fill) (type : TypeTree) → ConstTree
+    -- an array of integers of 8 bits, so many as there are bytes
+    BytesConst : (bytes : List ℕ) → ConstTree
+    -- an array, a vector of a known length or a struct
+    ListConst : (type : TypeTree) (elements : ConstTrees) → ConstTree
+    -- a scalable vector of which each lane is that
+    SplatConst : (type : TypeTree) (element : ConstTree) → ConstTree
+    PlaceholderConst : (number : ℕ) (type : TypeTree) → ConstTree
+
+  pub data ConstTrees : Type 0 where
+    NoConsts : ConstTrees
+    ThenConst : ConstTree → ConstTrees → ConstTrees
 
 -- what an operand names
 pub data Operand : Type 0 where
@@ -121,9 +134,16 @@ type_trees ks = trees_after type_tree [] ks
 abbrev pub const_at : List ConstTree → LLVMConst → ConstTree
 const_at cs c = slice_index_or cs c.0 (IntConst 0 0)
 
+abbrev pub consts_at : List ConstTree → List LLVMConst → ConstTrees
+consts_at cs [] = NoConsts
+consts_at cs (x ∷ xs) = ThenConst (const_at cs x) (consts_at cs xs)
+
 abbrev pub const_tree : List TypeTree → List ConstTree → LLVMConstKind → ConstTree
 const_tree ts cs (C.Int t v) = IntConst (width_in (type_at ts t)) v
 const_tree ts cs (C.Filled fill t) = FilledConst fill (type_at ts t)
+const_tree ts cs (C.Bytes t bytes) = BytesConst bytes
+const_tree ts cs (C.List t elements) = ListConst (type_at ts t) (consts_at cs elements)
+const_tree ts cs (C.Splat t element) = SplatConst (type_at ts t) (const_at cs element)
 const_tree ts cs (C.Placeholder number t) = PlaceholderConst number (type_at ts t)
 
 abbrev pub const_trees : List TypeTree → List LLVMConstKind → List ConstTree
@@ -132,6 +152,53 @@ const_trees ts ks = trees_after (const_tree ts) [] ks
 -- zero, undef or poison of a type in one form: the zero of an integer type is the integer 0
 abbrev pub filled_const : Fill → TypeTree → ConstTree
 filled_const fill type = if is_own_fill fill (shape type) then FilledConst fill type else IntConst (width_in type) 0
+
+-- ---- the one form of constants, as trees
+
+-- zero, undef or poison, where a constant in its one form is that
+abbrev pub fill_in : ConstTree → Option Fill
+fill_in (IntConst width value) = if is_zero value then Some F.Zero else None
+fill_in (FilledConst fill type) = Some fill
+fill_in (BytesConst bytes) = None
+fill_in (ListConst type elements) = None
+fill_in (SplatConst type element) = None
+fill_in (PlaceholderConst number type) = None
+
+-- the value of an integer
+abbrev pub int_in : ConstTree → Option ℕ
+int_in (IntConst width value) = Some value
+int_in (FilledConst fill type) = None
+int_in (BytesConst bytes) = None
+int_in (ListConst type elements) = None
+int_in (SplatConst type element) = None
+int_in (PlaceholderConst number type) = None
+
+-- what f tells of each of these constants
+abbrev pub told_of : {X : Type 0} → (ConstTree → Option X) → ConstTrees → List (Option X)
+told_of f NoConsts = []
+told_of f (ThenConst c cs) = f c ∷ told_of f cs
+
+-- an array of integers of 8 bits
+abbrev pub is_byte_array : TypeTree → Bool
+is_byte_array (ArrayType count type) = nat_eq (width_in type) 8
+is_byte_array _ = false
+
+-- a list of only zeros, of only undef or of only poison is that of the list's type, another of integers of 8 bits in an array
+-- is their bytes
+abbrev pub listed : TypeTree → ConstTrees → ConstTree
+listed type cs =
+    let bytes = if is_byte_array type then all_ints (told_of int_in cs) else None in
+    option_map_or (λ fill. FilledConst fill type) (common_fill (told_of fill_in cs)) (option_map_or BytesConst bytes (ListConst type cs))
+
+-- The one form of a constant whose parts are in theirs: zero, undef or poison where each part is that, for the zero of an integer
+-- type the integer 0, for a list of bytes these.
+abbrev pub formed : ConstTree → ConstTree
+formed (IntConst width value) = IntConst width value
+formed (FilledConst fill type) = filled_const fill type
+formed (BytesConst bytes) = if list_all is_zero bytes then FilledConst F.Zero (ArrayType (length bytes) (IntType 8)) else BytesConst bytes
+formed (ListConst type elements) = listed type elements
+formed (SplatConst type element) = option_map_or (λ fill. FilledConst fill type) (fill_in element) (SplatConst type element)
+formed (PlaceholderConst number type) = PlaceholderConst number type
 
 -- the trees that numbers of types and constants stand for
 pub record Trees : Type 0 where
@@ -230,6 +297,9 @@ param_type t i = nth_type (takes_of t) i
 abbrev pub const_type : ConstTree → TypeTree
 const_type (IntConst width value) = IntType width
 const_type (FilledConst fill type) = type
+const_type (BytesConst bytes) = ArrayType (length bytes) (IntType 8)
+const_type (ListConst type elements) = type
+const_type (SplatConst type element) = type
 const_type (PlaceholderConst number type) = type
 
 -- the instructions of a function, block after block

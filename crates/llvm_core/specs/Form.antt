@@ -4,7 +4,7 @@ use Rattle.std.specs.Prelude.{◌≡◌, ◌<◌, ◌≤◌, ◌^◌, ℕ, suc, 
 use Rattle.std.specs.List.{flat_map}
 use Rattle.std.specs.Option.{option_map_or}
 use Rattle.kinds.specs.Structs.{IsFormStruct, IsNested}
-use Rattle.llvm_core.specs.Data.{TypeTree, VoidType, FunctionType, NamedType, TypeTrees, StructBody, Struct, ConstTree, IntConst, FilledConst, PlaceholderConst, Operand, Constant, Parameter, Result, RowData, Instruction, Phi, Applied, Placed, Block, Function, ModuleData, const_type, operand_type, placed_in, targets, phi_entries}
+use Rattle.llvm_core.specs.Data.{TypeTree, VoidType, FunctionType, NamedType, TypeTrees, StructBody, Struct, ConstTree, IntConst, FilledConst, BytesConst, ListConst, SplatConst, PlaceholderConst, ConstTrees, NoConsts, ThenConst, Operand, Constant, Parameter, Result, RowData, Instruction, Phi, Applied, Placed, Block, Function, ModuleData, const_type, operand_type, placed_in, targets, phi_entries}
 use Rattle.kinds.specs.declared.rules.Takes.{Takes}
 use Rattle.kinds.specs.declared.rules.Takes.TheVariants as O
 use Rattle.kinds.specs.Rules.{ends, target_count, operand_count}
@@ -22,10 +22,13 @@ use Rattle.llvm_core.specs.Checked.{ends_in_only, named}
 -- ---- types and operands
 
 -- a constant of the form: an integer, undef, poison, or the zero of what is no integer type; of which type it may be is asked
--- where it stands
+-- where it stands. Bytes, lists and splats are not read yet.
 abbrev pub IsFormConst : ConstTree → Type 0
 IsFormConst (IntConst w v) = (1 ≤ w) × IsIntAt w v
 IsFormConst (FilledConst fill type) = is_own_fill fill (shape type) ≡ true
+IsFormConst (BytesConst bytes) = ⊥
+IsFormConst (ListConst type elements) = ⊥
+IsFormConst (SplatConst type element) = ⊥
 IsFormConst (PlaceholderConst n type) = ⊥
 
 -- one of the instructions has that number
@@ -179,11 +182,19 @@ pub record IsForm (d : ModuleData) : Type 0 where
 abbrev pub value_types : Function → List TypeTree
 value_types f = result_of f.type ∷ params_of f.type ++ map (λ (p : Placed). p.type) (placed_in f) ++ flat_map constant_types (placed_in f)
 
--- a constant that is translated: an integer has at most 64 bits
-abbrev pub IsShortConst : ConstTree → Type 0
-IsShortConst (IntConst w v) = w ≤ 64
-IsShortConst (FilledConst fill type) = Unit {0}
-IsShortConst (PlaceholderConst n type) = Unit {0}
+abbrev mutual
+  -- a constant that is translated: each integer in it has at most 64 bits
+  pub IsShortConst : ConstTree → Type 0
+  IsShortConst (IntConst w v) = w ≤ 64
+  IsShortConst (FilledConst fill type) = Unit {0}
+  IsShortConst (BytesConst bytes) = Unit {0}
+  IsShortConst (ListConst type elements) = AreShort elements
+  IsShortConst (SplatConst type element) = IsShortConst element
+  IsShortConst (PlaceholderConst n type) = Unit {0}
+
+  pub AreShort : ConstTrees → Type 0
+  AreShort NoConsts = Unit {0}
+  AreShort (ThenConst c cs) = IsShortConst c × AreShort cs
 
 -- so where an operand is a constant; of another nothing is asked
 abbrev pub IsShortOperand : Operand → Type 0
@@ -199,12 +210,31 @@ pub record IsHeldFunction (f : Function) : Type 0 where
 
 -- ---- what the form asks beside the rules of a checked module
 
+-- no bytes, list or splat, which text does not read yet; a placeholder is refused by the rules of a checked module
+abbrev pub IsPlainConst : ConstTree → Type 0
+IsPlainConst (IntConst w v) = Unit {0}
+IsPlainConst (FilledConst fill type) = Unit {0}
+IsPlainConst (BytesConst bytes) = ⊥
+IsPlainConst (ListConst type elements) = ⊥
+IsPlainConst (SplatConst type element) = ⊥
+IsPlainConst (PlaceholderConst n type) = Unit {0}
+
+-- so where an operand is a constant; of another nothing is asked
+abbrev pub IsPlainOperand : Operand → Type 0
+IsPlainOperand (Constant c) = IsPlainConst c
+IsPlainOperand (Parameter g i) = Unit {0}
+IsPlainOperand (Result n) = Unit {0}
+
+-- an operand of a first class type, and no constant that text does not read
+abbrev pub IsNarrowOperand : Function → Operand → Type 0
+IsNarrowOperand f o = IsFirstClass (operand_type f o) × IsPlainOperand o
+
 -- the types of operands, and of a result where there is one, are first class; what has no result has no name
 pub record IsNarrowPlaced (f : Function) (p : Placed) : Type 0 where
   pub name : IsGoodOrNone p.name
   pub unnamed : p.type ≡ VoidType → p.name ≡ []
   pub result : IsReturned p.type
-  pub operands : All (λ (o : Operand). IsFirstClass (operand_type f o)) (operands_of p.instruction)
+  pub operands : All (IsNarrowOperand f) (operands_of p.instruction)
 
 pub record IsNarrowBlock (f : Function) (b : Block) : Type 0 where
   pub label : IsGoodOrNone b.name

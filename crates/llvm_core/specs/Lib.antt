@@ -3,6 +3,8 @@ pub mod Keys
 pub mod Module
 pub mod Code
 pub mod Parts
+pub mod Consts
+pub mod Kept
 pub mod Sound
 pub mod Data
 pub mod Bodies

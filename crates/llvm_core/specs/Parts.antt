@@ -22,7 +22,6 @@ use Rattle.kinds.specs.declared.fitting.Shape.{Shape}
 use Rattle.kinds.specs.declared.fitting.Shape.TheVariants as S
 use Rattle.kinds.specs.declared.fitting.TypeView.{TypeView}
 use Rattle.kinds.specs.Table.{rule_of}
-use Rattle.kinds.specs.Fill.{is_own_fill}
 use Rattle.kinds.specs.Fitting as F
 use Rattle.kinds.specs.Fitting.{fits, view_shape, view_same}
 use Rattle.llvm_core.specs.declared.code.FunctionData.{FunctionData}
@@ -66,25 +65,6 @@ shape_at types t = option_map_or shape_of (slice_get types t.0) S.Void
 -- an integer that a module keeps at a width: below 2^width, and below 2^128 at a greater width too
 abbrev pub IsIntAt : (width value : ℕ) → Type 0
 IsIntAt width value = (value < 2 ^ width) × (value < 2 ^ 128)
-
--- a constant of one form over a list of types: an integer of an integer type, which it fits, zero, undef or poison of a type
--- that is there but the zero of an integer type, or a placeholder of a type that is there
-abbrev pub IsConstOver : List LLVMTypeKind → LLVMConstKind → Type 0
-IsConstOver types (C.Int t value) = (width : ℕ) × (slice_get types t.0 ≡ Some (T.Int width)) × IsIntAt width value
-IsConstOver types (C.Filled fill t) = (t.0 < length types) × (is_own_fill fill (shape_at types t) ≡ true)
-IsConstOver types (C.Placeholder number t) = t.0 < length types
-
--- what a constant may be made of, whether that is its one form or not
-abbrev pub HasConstParts : List LLVMTypeKind → LLVMConstKind → Type 0
-HasConstParts types (C.Int t value) = IsConstOver types (C.Int t value)
-HasConstParts types (C.Filled fill t) = t.0 < length types
-HasConstParts types (C.Placeholder number t) = t.0 < length types
-
--- the one form of a constant: the zero of an integer type is the integer 0
-abbrev pub one_form : List LLVMTypeKind → LLVMConstKind → LLVMConstKind
-one_form types (C.Int t value) = C.Int t value
-one_form types (C.Filled fill t) = if is_own_fill fill (shape_at types t) then C.Filled fill t else C.Int t 0
-one_form types (C.Placeholder number t) = C.Placeholder number t
 
 -- a type is made of what may stand in it, a line for each kind
 abbrev pub HasFitParts : List LLVMTypeKind → LLVMTypeKind → Type 0
@@ -137,6 +117,9 @@ IsValue m (V.Inst i) = i.0 < length m.insts
 abbrev pub const_type : LLVMConstKind → LLVMType
 const_type (C.Int t value) = t
 const_type (C.Filled fill t) = t
+const_type (C.Bytes t bytes) = t
+const_type (C.List t elements) = t
+const_type (C.Splat t element) = t
 const_type (C.Placeholder number t) = t
 
 -- the types of the parameters of a function

@@ -16,7 +16,8 @@ use Rattle.llvm_core.specs.declared.code.BlockData.{BlockData}
 use Rattle.llvm_core.specs.declared.code.InstData.{InstData}
 use Rattle.support.specs.Interned.{IsDistinctList}
 use Rattle.llvm_core.specs.Module.{Module}
-use Rattle.llvm_core.specs.Parts.{IsTypeOver, HasFitParts, shape_at, IsConstOver, IsFunctionType, HasValues, type_params, result_type}
+use Rattle.llvm_core.specs.Consts.{IsConstIn, IsMadeBelow}
+use Rattle.llvm_core.specs.Parts.{IsTypeOver, HasFitParts, shape_at, IsFunctionType, HasValues, type_params, result_type}
 
 -- fields that are there, each of a type that a struct may have a field of
 pub record AreFieldsIn (types : List LLVMTypeKind) (b : StructFields) : Type 0 where
@@ -73,7 +74,8 @@ pub record IsModule (m : Module) : Type 0 where
   pub types : (i : ℕ) (k : LLVMTypeKind) → slice_get m.types i ≡ Some k → IsTypeOver i k
   pub types_fit : (i : ℕ) (k : LLVMTypeKind) → slice_get m.types i ≡ Some k → HasFitParts m.types k
   pub types_once : IsDistinctList m.types
-  pub consts : (i : ℕ) (k : LLVMConstKind) → slice_get m.consts i ≡ Some k → IsConstOver m.types k
+  pub consts : (i : ℕ) (k : LLVMConstKind) → slice_get m.consts i ≡ Some k → IsConstIn m k
+  pub consts_below : (i : ℕ) (k : LLVMConstKind) → slice_get m.consts i ≡ Some k → IsMadeBelow i k
   pub consts_once : IsDistinctList m.consts
   pub structs : All (IsStructIn m.types) m.structs
   pub functions : (f : ℕ) (x : FunctionData) → slice_get m.functions f ≡ Some x → IsFunctionIn m x

@@ -1,7 +1,9 @@
-//! Laws of modules of the form, each on a function that makes no call.
+//! Laws of modules, of those of the form above all, each on a function that makes no call.
 
-ghost use Rattle.std.specs.Prelude.{◌≡◌};
+ghost use Rattle.std.specs.Prelude.{◌≡◌, ℕ, Some, slice_get};
 ghost use Rattle.llvm_core.specs.Module.{Module};
+ghost use Rattle.llvm_core.specs.declared.consts.LLVMConstKind.{LLVMConstKind};
+ghost use Rattle.llvm_core.specs.Kept.{IsKept};
 ghost use Rattle.llvm_core.specs.Sound.{IsModule};
 ghost use Rattle.llvm_core.specs.Data.{data_of, AreApart};
 ghost use Rattle.llvm_core.specs.Checked.{IsChecked};
@@ -21,4 +23,9 @@ pub fn checked_is_form()
 pub fn checked_is_distinct()
     ensures distinct { (m : Module) → IsModule m → IsChecked m → HasDistinctNames (data_of m) }
     ensures few { (m : Module) → IsModule m → IsChecked m → HasFew (data_of m) }
+{}
+
+/// What a module keeps has none of the spellings that the one form of constants rules out: no list of only zeros, and so on.
+pub fn kept_constants()
+    ensures { (m : Module) → IsModule m → (c : ℕ) (k : LLVMConstKind) → slice_get m.consts c ≡ Some k → IsKept m k }
 {}

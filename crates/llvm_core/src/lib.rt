@@ -9,6 +9,7 @@ pub mod code_store;
 pub mod consts;
 pub mod depths;
 pub mod edges;
+pub mod examples;
 pub mod laws;
 pub mod make;
 pub mod module;

@@ -7,7 +7,8 @@ ghost use Rattle.llvm_core.specs.declared.types.ResultType.TheVariants as result
 ghost use Rattle.support.specs.Interned.{Interned};
 ghost use Rattle.llvm_core.specs.Module.{Module};
 ghost use Rattle.llvm_core.specs.Code.{code_of, with_code, with_function, with_param_name, with_block, with_inst, with_operand, with_entry, with_changed_inst, param_names};
-ghost use Rattle.llvm_core.specs.Parts.{IsTypeOver, HasFitParts, IsConstOver, HasConstParts, one_form, IsFunctionType, IsValue, IsBlock, HasParts, HasValues, IsResultType, IsResultOver, TakesOperand, IsPhi, made_kind, const_type, is_function, given, kind_params, type_params, value_type, result_type, row_fits, row_result, shape_of, type_nth, view, view_nth};
+ghost use Rattle.llvm_core.specs.Parts.{IsTypeOver, HasFitParts, IsFunctionType, IsValue, IsBlock, HasParts, HasValues, IsResultType, IsResultOver, TakesOperand, IsPhi, made_kind, const_type, is_function, given, kind_params, type_params, value_type, result_type, row_fits, row_result, shape_of, type_nth, view, view_nth};
+ghost use Rattle.llvm_core.specs.Consts.{IsConstIn, IsMadeBelow};
 ghost use Rattle.llvm_core.specs.Sound.{AreFieldsIn, IsModule};
 ghost use Rattle.llvm_core.specs.Data as lists;
 ghost use Rattle.llvm_core.specs.Data.{trees_of, type_at, result_tree, operand_of, instruction_of, data_of, fields_of, AreApart, AllBlocks, AllPlaced};
@@ -27,6 +28,7 @@ use support::items::Items;
 use support::text::Text;
 
 mod adding;
+mod forming;
 mod naming;
 
 /// A module in memory.
@@ -101,20 +103,6 @@ impl LLVMModule {
     {
         let at = self.types.get(kind)?;
         Ok(LLVMType(at))
-    }
-
-    /// The number of the constant that `kind` is in one form, new or old: a module keeps each constant in one form alone.
-    pub fn const_get(&mut self, kind: LLVMConstKind) -> Result<LLVMConst, AllocError>
-        requires { HasConstParts self.old.types kind }
-        ensures interned { IfOk result (λ c. Interned self.old.consts self.new.consts (one_form self.old.types kind) c.0) }
-        ensures rest { self.new ≡ record self.old { consts = self.new.consts } }
-        ensures err { OnErr result (self.new ≡ self.old) }
-        ensures data { data_of self.new ≡ data_of self.old }
-        ensures sound { IsModule self.new }
-    {
-        let kind = self.one_form(kind);
-        let at = self.consts.get(kind)?;
-        Ok(LLVMConst(at))
     }
 
     /// A struct with a name; one without fields that are told is opaque. Its name is not asked whether another has it, and its
@@ -297,7 +285,8 @@ impl LLVMModule {
     pub fn const_kind(&self, c: LLVMConst) -> &LLVMConstKind
         requires { c.0 < length self.now.consts }
         ensures kind { slice_get self.now.consts c.0 ≡ Some result.now }
-        ensures parts { IsConstOver self.now.types result.now }
+        ensures parts { IsConstIn self.now result.now }
+        ensures below { IsMadeBelow c.0 result.now }
     {
         self.consts.value(c.0)
     }
@@ -535,24 +524,6 @@ impl LLVMModule {
         }
     }
 
-    /// The one form of a constant.
-    fn one_form(&self, kind: LLVMConstKind) -> LLVMConstKind
-        requires { HasConstParts self.now.types kind }
-        ensures { result ≡ one_form self.now.types kind }
-    {
-        match kind {
-            LLVMConstKind::Filled(fill, ty) => {
-                if fill.is_own(shape_of(self.type_kind(ty))) {
-                    LLVMConstKind::Filled(fill, ty)
-                } else {
-                    LLVMConstKind::Int(ty, 0)
-                }
-            }
-            LLVMConstKind::Int(ty, value) => LLVMConstKind::Int(ty, value),
-            LLVMConstKind::Placeholder(number, ty) => LLVMConstKind::Placeholder(number, ty),
-        }
-    }
-
     fn param_type(&self, f: LLVMFunction, place: u32) -> LLVMType
         requires { place < length (param_names self.now.functions f) }
         ensures ty { value_type self.now (values.Param f place) ≡ Some result }
@@ -568,6 +539,9 @@ fn const_type(kind: &LLVMConstKind) -> LLVMType
     match kind {
         LLVMConstKind::Int(ty, _) => *ty,
         LLVMConstKind::Filled(_, ty) => *ty,
+        LLVMConstKind::Bytes(ty, _) => *ty,
+        LLVMConstKind::List(ty, _) => *ty,
+        LLVMConstKind::Splat(ty, _) => *ty,
         LLVMConstKind::Placeholder(_, ty) => *ty,
     }
 }

@@ -7,8 +7,9 @@ ghost use Rattle.llvm_core.specs.declared.code.LLVMInst.TheVariants as insts;
 ghost use Rattle.llvm_core.specs.declared.check_err.Place.TheVariants as places;
 ghost use Rattle.llvm_core.specs.declared.check_err.CheckErr.TheVariants as errors;
 ghost use Rattle.kinds.specs.Table.{rule_of};
+ghost use Rattle.llvm_core.specs.Consts.{is_placeholder};
 ghost use Rattle.llvm_core.specs.Parts.{IsValue, IsBlock, IsEntry, HasParts, HasValues, operands, is_function, row_fits};
-ghost use Rattle.llvm_core.specs.Checked.{is_void, is_valueless, MisfitsPhi, returns_void, return_type, home, is_outside, is_block_outside, is_entry_outside, reaches_outside, is_placeholder, HasOtherType, returns_other, misfits_return, is_counted, Fails, IsCheckedInst};
+ghost use Rattle.llvm_core.specs.Checked.{is_void, is_valueless, MisfitsPhi, returns_void, return_type, home, is_outside, is_block_outside, is_entry_outside, reaches_outside, HasOtherType, returns_other, misfits_return, is_counted, Fails, IsCheckedInst};
 
 use crate::check_err::{CheckErr, Place};
 use crate::code::{LLVMInst, LLVMValue, PhiEntry, Row};

@@ -7,42 +7,67 @@ ghost use Rattle.llvm_core.specs.Checked.{IsChecked, struct_names};
 ghost use Rattle.llvm_core.specs.Code.{param_names};
 ghost use Rattle.llvm_core.specs.Names.{is_good_name};
 ghost use Rattle.llvm_core.specs.Parts.{IsValue, HasValues, is_kind, operands};
-ghost use Rattle.llvm_form.specs.Narrow.{is_good_or_none, is_first_class_type, is_returned_kind, is_first_class_value, is_named_right, is_narrow_inst, is_narrow_block, is_narrow_signature, is_narrow_function, is_narrow_function_data, is_narrow};
+ghost use Rattle.llvm_form.specs.Narrow.{is_good_or_none, is_first_class_type, is_returned_kind, is_plain_const, is_plain_value, is_narrow_value, is_named_right, is_narrow_inst, is_narrow_block, is_narrow_signature, is_narrow_function, is_narrow_function_data, is_narrow};
 
 use crate::narrow::{is_first_class_kind, is_good_or_none, is_returned_kind, is_void};
 use kinds::names::is_good_name;
 use llvm_core::code::{LLVMInst, LLVMValue, PhiEntry};
+use llvm_core::consts::LLVMConstKind;
 use llvm_core::module::LLVMModule;
 use llvm_core::numbers::{LLVMBasicBlock, LLVMFunction, LLVMInstRef, LLVMStruct, LLVMType};
 use llvm_core::types::LLVMTypeKind;
 
 // ---- values
 
-fn is_first_class_value(m: &LLVMModule, value: LLVMValue) -> bool
-    requires { IsValue m.now value }
-    ensures { result ≡ is_first_class_value m.now value }
+/// Whether a constant is no bytes, list or splat, which text does not read yet; a placeholder is refused by `check`.
+fn is_plain_const(kind: &LLVMConstKind) -> bool
+    ensures { result ≡ is_plain_const kind.now }
 {
-    is_first_class_kind(m.type_kind(m.type_of(value)))
+    match kind {
+        LLVMConstKind::Int(..) => true,
+        LLVMConstKind::Filled(..) => true,
+        LLVMConstKind::Placeholder(..) => true,
+        _ => false,
+    }
 }
 
-fn are_first_class_values(m: &LLVMModule, values: &[LLVMValue]) -> bool
+/// Whether a value is no constant that text does not read.
+fn is_plain_value(m: &LLVMModule, value: LLVMValue) -> bool
+    requires { IsValue m.now value }
+    ensures { result ≡ is_plain_value m.now value }
+{
+    match value {
+        LLVMValue::Const(c) => is_plain_const(m.const_kind(c)),
+        _ => true,
+    }
+}
+
+/// Whether a value is of a first class type, and no constant that text does not read.
+fn is_narrow_value(m: &LLVMModule, value: LLVMValue) -> bool
+    requires { IsValue m.now value }
+    ensures { result ≡ is_narrow_value m.now value }
+{
+    is_first_class_kind(m.type_kind(m.type_of(value))) && is_plain_value(m, value)
+}
+
+fn are_narrow_values(m: &LLVMModule, values: &[LLVMValue]) -> bool
     requires { All (IsValue m.now) values.now }
-    ensures { result ≡ list_all (is_first_class_value m.now) values.now }
+    ensures { result ≡ list_all (is_narrow_value m.now) values.now }
 {
     for value in values {
-        if !is_first_class_value(m, *value) {
+        if !is_narrow_value(m, *value) {
             return false;
         }
     }
     true
 }
 
-fn are_first_class_entries(m: &LLVMModule, entries: &[PhiEntry]) -> bool
+fn are_narrow_entries(m: &LLVMModule, entries: &[PhiEntry]) -> bool
     requires { All (λ e. IsValue m.now e.value) entries.now }
-    ensures { result ≡ list_all (λ e. is_first_class_value m.now e.value) entries.now }
+    ensures { result ≡ list_all (λ e. is_narrow_value m.now e.value) entries.now }
 {
     for entry in entries {
-        if !is_first_class_value(m, entry.value) {
+        if !is_narrow_value(m, entry.value) {
             return false;
         }
     }
@@ -52,14 +77,14 @@ fn are_first_class_entries(m: &LLVMModule, entries: &[PhiEntry]) -> bool
 // ---- instructions
 
 #[tactic(auto, using(crate::proofs::AllLaws::all_mapped))]
-/// Whether the operands of an instruction are of first class types.
-fn has_first_class_operands(m: &LLVMModule, inst: &LLVMInst) -> bool
+/// Whether the operands of an instruction are of first class types, and no constants that text does not read.
+fn has_narrow_operands(m: &LLVMModule, inst: &LLVMInst) -> bool
     requires { HasValues m.now inst.now }
-    ensures { result ≡ list_all (is_first_class_value m.now) (operands inst.now) }
+    ensures { result ≡ list_all (is_narrow_value m.now) (operands inst.now) }
 {
     match inst {
-        LLVMInst::Phi(_, entries) => are_first_class_entries(m, entries.as_slice()),
-        LLVMInst::Row(row) => are_first_class_values(m, row.operands.as_slice()),
+        LLVMInst::Phi(_, entries) => are_narrow_entries(m, entries.as_slice()),
+        LLVMInst::Row(row) => are_narrow_values(m, row.operands.as_slice()),
     }
 }
 
@@ -72,7 +97,7 @@ fn is_narrow_inst(m: &LLVMModule, i: LLVMInstRef) -> bool
     let name = m.inst_name(i);
     let named = name.is_empty() || (is_good_name(name) && !is_void(kind));
     let inst = m.inst(i);
-    named && is_returned_kind(kind) && has_first_class_operands(m, inst)
+    named && is_returned_kind(kind) && has_narrow_operands(m, inst)
 }
 
 fn are_narrow_insts(m: &LLVMModule, insts: &[LLVMInstRef]) -> bool

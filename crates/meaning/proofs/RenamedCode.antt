@@ -8,7 +8,7 @@ use Rattle.std.proofs.lemmas.List.{length-map}
 use Rattle.kinds.specs.Types.{TypeTree}
 use Rattle.kinds.specs.Structs.{renamed}
 use Rattle.llvm_core.specs.Data as L
-use Rattle.llvm_core.specs.Data.{IntConst, FilledConst, PlaceholderConst, Instruction, Phi, Applied, Constant, Parameter, Result, Placed, ModuleData, operand_type, targets}
+use Rattle.llvm_core.specs.Data.{IntConst, FilledConst, BytesConst, ListConst, SplatConst, PlaceholderConst, Instruction, Phi, Applied, Constant, Parameter, Result, Placed, ModuleData, operand_type, targets}
 use Rattle.meaning.specs.Terms.{Term, Param, Answer, Unset, Int, Filled, ListOf, Expr, Insert, Terms, NoTerms, ThenTerm, Path, Places, PlaceOf, Match, rename, rename_all, rename_path}
 use Rattle.meaning.specs.Machine.{Operand, Fixed, Applies, Row, Edge, Block, Item, Entered, Event, trace}
 use Rattle.meaning.specs.Setting.{Setting}
@@ -42,6 +42,9 @@ module _ (to : List ℕ → List ℕ) where
   operand_under : (a : Setting) (o : L.Operand) → Llvm.operand a (renamed_operand to o) ≡ operand_as Key names_match (Llvm.operand a o)
   operand_under a (Constant (IntConst w n)) = refl
   operand_under a (Constant (FilledConst fill t)) = ap Fixed (sym (filled_under names_match fill t))
+  operand_under a (Constant (BytesConst bytes)) = refl
+  operand_under a (Constant (ListConst t cs)) = refl
+  operand_under a (Constant (SplatConst t c)) = refl
   operand_under a (Constant (PlaceholderConst n t)) = refl
   operand_under a (Parameter g i) = refl
   operand_under a (Result n) = refl

@@ -14,7 +14,7 @@ use Rattle.kinds.specs.Types.{TypeTree, VoidType, TypeTrees, NoTypes, ThenType, 
 use Rattle.kinds.specs.Structs.{renamed, renamed_all}
 use Rattle.kinds.proofs.RenamedLaws.{renamed_self, renamed_shape, renamed_takes, renamed_count}
 use Rattle.llvm_core.specs.Data as L
-use Rattle.llvm_core.specs.Data.{ConstTree, IntConst, FilledConst, PlaceholderConst, RowData, Instruction, Phi, Applied, Constant, Parameter, Result, Placed, nth_type, param_type, operand_type, placed_in, targets}
+use Rattle.llvm_core.specs.Data.{ConstTree, IntConst, FilledConst, BytesConst, ListConst, SplatConst, PlaceholderConst, RowData, Instruction, Phi, Applied, Constant, Parameter, Result, Placed, nth_type, param_type, operand_type, placed_in, targets}
 use Rattle.dialect_core.specs.Data as D
 use Rattle.dialect_core.specs.declared.ops.Value.{Value}
 use Rattle.meaning.specs.Terms.{Param, Unset, Int, Filled, Match, filled_term, rename, rename_type}
@@ -141,6 +141,9 @@ module _ (to : List ℕ → List ℕ) where
   pub renamed_operand_type : (f : L.Function) (o : L.Operand) → operand_type (renamed_function to f) (renamed_operand to o) ≡ renamed to (operand_type f o)
   renamed_operand_type f (Constant (IntConst w v)) = refl
   renamed_operand_type f (Constant (FilledConst fill t)) = refl
+  renamed_operand_type f (Constant (BytesConst bytes)) = refl
+  renamed_operand_type f (Constant (ListConst t cs)) = refl
+  renamed_operand_type f (Constant (SplatConst t c)) = refl
   renamed_operand_type f (Constant (PlaceholderConst n t)) = refl
   renamed_operand_type f (Parameter g i) = param_if (nat_eq g f.number) f.type i
   renamed_operand_type f (Result n) = result_under f n
@@ -200,6 +203,12 @@ module _ (to : List ℕ → List ℕ) (plain under : Match) (stays : (n : List �
     stands a (Constant (IntConst w n)) (Fixed u) h = h
     stands a (Constant (FilledConst fill t)) (At v) h = (h.0, sym (filled_same fill t) ∙ h.1)
     stands a (Constant (FilledConst fill t)) (Fixed u) h = sym (filled_same fill t) ∙ h
+    stands a (Constant (BytesConst bytes)) (At v) h = h
+    stands a (Constant (BytesConst bytes)) (Fixed u) h = h
+    stands a (Constant (ListConst t cs)) (At v) h = h
+    stands a (Constant (ListConst t cs)) (Fixed u) h = h
+    stands a (Constant (SplatConst t c)) (At v) h = h
+    stands a (Constant (SplatConst t c)) (Fixed u) h = h
     stands a (Constant (PlaceholderConst n t)) (At v) h = h
     stands a (Constant (PlaceholderConst n t)) (Fixed u) h = h
     stands a (Parameter g i) (At v) h = h

@@ -3,14 +3,22 @@ use Rattle.std.specs.Prelude.{ℕ, List, map}
 use Rattle.std.specs.Option.{option_map}
 use Rattle.kinds.specs.Structs.{renamed, renamed_struct}
 use Rattle.llvm_core.specs.Data as L
-use Rattle.llvm_core.specs.Data.{ConstTree, IntConst, FilledConst, PlaceholderConst, RowData, Instruction, Phi, Applied, Placed, ModuleData}
+use Rattle.llvm_core.specs.Data.{ConstTree, IntConst, FilledConst, BytesConst, ListConst, SplatConst, PlaceholderConst, ConstTrees, NoConsts, ThenConst, RowData, Instruction, Phi, Applied, Placed, ModuleData}
 
 module _ (to : List ℕ → List ℕ) where
-  -- a line for each kind of constant
-  abbrev pub renamed_const : ConstTree → ConstTree
-  renamed_const (IntConst w v) = IntConst w v
-  renamed_const (FilledConst fill type) = FilledConst fill (renamed to type)
-  renamed_const (PlaceholderConst n type) = PlaceholderConst n (renamed to type)
+  abbrev mutual
+    -- a line for each kind of constant
+    pub renamed_const : ConstTree → ConstTree
+    renamed_const (IntConst w v) = IntConst w v
+    renamed_const (FilledConst fill type) = FilledConst fill (renamed to type)
+    renamed_const (BytesConst bytes) = BytesConst bytes
+    renamed_const (ListConst type elements) = ListConst (renamed to type) (renamed_consts elements)
+    renamed_const (SplatConst type element) = SplatConst (renamed to type) (renamed_const element)
+    renamed_const (PlaceholderConst n type) = PlaceholderConst n (renamed to type)
+
+    pub renamed_consts : ConstTrees → ConstTrees
+    renamed_consts NoConsts = NoConsts
+    renamed_consts (ThenConst c cs) = ThenConst (renamed_const c) (renamed_consts cs)
 
   abbrev pub renamed_operand : L.Operand → L.Operand
   renamed_operand (L.Constant c) = L.Constant (renamed_const c)

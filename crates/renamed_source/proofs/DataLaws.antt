@@ -9,6 +9,7 @@ use Rattle.kinds.specs.Held.{width_in}
 use Rattle.kinds.specs.Structs.{StructBody, Struct, renamed, renamed_all, renamed_body, renamed_struct}
 use Rattle.kinds.proofs.RenamedLaws.{renamed_width}
 use Rattle.llvm_core.specs.declared.numbers.LLVMType.{LLVMType}
+use Rattle.llvm_core.specs.declared.numbers.LLVMConst.{LLVMConst}
 use Rattle.llvm_core.specs.declared.numbers.LLVMBasicBlock.{LLVMBasicBlock}
 use Rattle.llvm_core.specs.declared.numbers.LLVMInstRef.{LLVMInstRef}
 use Rattle.llvm_core.specs.declared.types.LLVMTypeKind.{LLVMTypeKind}
@@ -28,8 +29,8 @@ use Rattle.llvm_core.specs.declared.code.BlockData.{BlockData}
 use Rattle.llvm_core.specs.declared.code.InstData.{InstData}
 use Rattle.llvm_core.specs.Module.{Module}
 use Rattle.llvm_core.specs.Data as L
-use Rattle.llvm_core.specs.Data.{ConstTree, IntConst, RowData, Instruction, Phi, Applied, Placed, ModuleData, Trees, trees_after, trees_of, type_at, types_at, type_tree, type_trees, const_at, const_tree, const_trees, operand_of, entry_of, row_of, instruction_of, placed_of, placed_at, block_of, block_at, function_of, fields_of, struct_of, data_of}
-use Rattle.meaning.specs.Renamed.{renamed_const, renamed_operand, renamed_phi_entry, renamed_row, renamed_instruction, renamed_placed, renamed_block, renamed_function, renamed_module}
+use Rattle.llvm_core.specs.Data.{ConstTree, IntConst, RowData, Instruction, Phi, Applied, Placed, ModuleData, Trees, trees_after, trees_of, type_at, types_at, type_tree, type_trees, const_at, consts_at, const_tree, const_trees, operand_of, entry_of, row_of, instruction_of, placed_of, placed_at, block_of, block_at, function_of, fields_of, struct_of, data_of}
+use Rattle.meaning.specs.Renamed.{renamed_const, renamed_consts, renamed_operand, renamed_phi_entry, renamed_row, renamed_instruction, renamed_placed, renamed_block, renamed_function, renamed_module}
 use Rattle.renamed_source.specs.Names.{renamed_kind, renamed_struct_data, renamed_store}
 
 -- ---- lists and options
@@ -93,9 +94,19 @@ module _ (to : List ℕ → List ℕ) where
   pub renamed_type_trees : (ks : List LLVMTypeKind) → type_trees (map (renamed_kind to) ks) ≡ map (renamed to) (type_trees ks)
   renamed_type_trees ks = after (renamed to) (renamed_kind to) type_tree type_tree kind_tree [] ks
 
+  same_const : (cs : List ConstTree) (c : LLVMConst) → const_at (map (renamed_const to) cs) c ≡ renamed_const to (const_at cs c)
+  same_const cs c = get_or-map (renamed_const to) cs c.0 (IntConst 0 0)
+
+  same_consts : (cs : List ConstTree) (xs : List LLVMConst) → consts_at (map (renamed_const to) cs) xs ≡ renamed_consts to (consts_at cs xs)
+  same_consts cs [] = refl
+  same_consts cs (x ∷ xs) = let first = same_const cs x in let rest = same_consts cs xs in cc
+
   const_kind_tree : (ts : List TypeTree) (cs : List ConstTree) (k : LLVMConstKind) → const_tree (map (renamed to) ts) (map (renamed_const to) cs) k ≡ renamed_const to (const_tree ts cs k)
   const_kind_tree ts cs (C.Int t v) = ap (λ (w : ℕ). IntConst w v) (ap width_in (same_type ts t) ∙ renamed_width to (type_at ts t))
   const_kind_tree ts cs (C.Filled fill t) = ap (L.FilledConst fill) (same_type ts t)
+  const_kind_tree ts cs (C.Bytes t bytes) = refl
+  const_kind_tree ts cs (C.List t elements) = let a = same_type ts t in let b = same_consts cs elements in cc
+  const_kind_tree ts cs (C.Splat t element) = let a = same_type ts t in let b = same_const cs element in cc
   const_kind_tree ts cs (C.Placeholder number t) = ap (L.PlaceholderConst number) (same_type ts t)
 
   consts_after : (ts : List TypeTree) (done : List ConstTree) (ks : List LLVMConstKind) → trees_after (const_tree (map (renamed to) ts)) (map (renamed_const to) done) ks ≡ map (renamed_const to) (trees_after (const_tree ts) done ks)

@@ -19,11 +19,11 @@ use Rattle.kinds.specs.Structs.{renamed, renamed_all}
 use Rattle.kinds.proofs.HeldLaws.{void_is, void_if}
 use Rattle.kinds.proofs.RenamedLaws.{renamed_shape, renamed_list, renamed_count, renamed_result, renamed_params, renamed_void, renamed_shallow, renamed_first_class, renamed_returned, renamed_held_result}
 use Rattle.support.specs.Interned.{IsDistinctList}
-use Rattle.llvm_core.specs.Data.{IntConst, FilledConst, PlaceholderConst, Operand, Constant, Parameter, Result, RowData, Instruction, Phi, Applied, Placed, Block, Function, operand_type, placed_in, targets}
+use Rattle.llvm_core.specs.Data.{ConstTree, IntConst, FilledConst, BytesConst, ListConst, SplatConst, PlaceholderConst, ConstTrees, NoConsts, ThenConst, Operand, Constant, Parameter, Result, RowData, Instruction, Phi, Applied, Placed, Block, Function, operand_type, placed_in, targets}
 use Rattle.llvm_core.specs.Edges.{count_of}
 use Rattle.llvm_core.specs.Checked.{ends_in_only}
-use Rattle.llvm_core.specs.Form.{operands_of, constant_type, constant_types, IsOperandOf, IsOperand, targets_of, edges_between, IsTarget, FitsEdges, IsReturning, returns_void, types_of, IsFormRow, IsFormInstruction, IsFormPlaced, is_last, is_phi, HasPhisFirst, IsFormBlock, IsFormFunction, value_types, IsHeldFunction, IsShortOperand}
-use Rattle.meaning.specs.Renamed.{renamed_operand, renamed_phi_entry, renamed_row, renamed_instruction, renamed_placed, renamed_block, renamed_function}
+use Rattle.llvm_core.specs.Form.{operands_of, constant_type, constant_types, IsOperandOf, IsOperand, targets_of, edges_between, IsTarget, FitsEdges, IsReturning, returns_void, types_of, IsFormRow, IsFormInstruction, IsFormPlaced, is_last, is_phi, HasPhisFirst, IsFormBlock, IsFormFunction, value_types, IsHeldFunction, IsShortConst, AreShort, IsShortOperand}
+use Rattle.meaning.specs.Renamed.{renamed_const, renamed_consts, renamed_operand, renamed_phi_entry, renamed_row, renamed_instruction, renamed_placed, renamed_block, renamed_function}
 use Rattle.meaning.proofs.RenamedLaws.{map_twice, flat_map_agree, renamed_placed_in, renamed_operand_type, renamed_operand_types, renamed_targets}
 use Rattle.renamed_source.proofs.DataLaws.{map_both, joined_mapped}
 use Rattle.renamed_source.proofs.FittingLaws.{fits_renamed, typed_renamed, unwrapped}
@@ -74,6 +74,9 @@ module _ (to : List ℕ → List ℕ) where
   constant_type_under : (o : Operand) → constant_type (renamed_operand to o) ≡ map (renamed to) (constant_type o)
   constant_type_under (Constant (IntConst w v)) = refl
   constant_type_under (Constant (FilledConst fill t)) = refl
+  constant_type_under (Constant (BytesConst bytes)) = refl
+  constant_type_under (Constant (ListConst t cs)) = refl
+  constant_type_under (Constant (SplatConst t c)) = refl
   constant_type_under (Constant (PlaceholderConst n t)) = refl
   constant_type_under (Parameter g i) = refl
   constant_type_under (Result n) = refl
@@ -102,10 +105,21 @@ module _ (to : List ℕ → List ℕ) where
       let whole = map-append (renamed to) (result_of f.type ∷ params_of f.type ++ results) constants in
       cc
 
+  mutual
+    const_short : (c : ConstTree) → IsShortConst c → IsShortConst (renamed_const to c)
+    const_short (IntConst w v) h = h
+    const_short (FilledConst fill t) h = tt
+    const_short (BytesConst bytes) h = tt
+    const_short (ListConst t cs) h = consts_short cs h
+    const_short (SplatConst t c) h = const_short c h
+    const_short (PlaceholderConst n t) h = tt
+
+    consts_short : (cs : ConstTrees) → AreShort cs → AreShort (renamed_consts to cs)
+    consts_short NoConsts h = tt
+    consts_short (ThenConst c cs) h = (const_short c h.0, consts_short cs h.1)
+
   operand_short : (o : Operand) → IsShortOperand o → IsShortOperand (renamed_operand to o)
-  operand_short (Constant (IntConst w v)) h = h
-  operand_short (Constant (FilledConst fill t)) h = tt
-  operand_short (Constant (PlaceholderConst n t)) h = tt
+  operand_short (Constant c) h = const_short c h
   operand_short (Parameter g i) h = tt
   operand_short (Result n) h = tt
 
@@ -127,6 +141,9 @@ module _ (to : List ℕ → List ℕ) where
   operand_of : (f : Function) (o : Operand) → IsOperandOf f o → IsOperandOf (renamed_function to f) (renamed_operand to o)
   operand_of f (Constant (IntConst w v)) h = h
   operand_of f (Constant (FilledConst fill t)) h = ap (is_own_fill fill) (renamed_shape to t) ∙ h
+  operand_of f (Constant (BytesConst bytes)) h = absurd h
+  operand_of f (Constant (ListConst t cs)) h = absurd h
+  operand_of f (Constant (SplatConst t c)) h = absurd h
   operand_of f (Constant (PlaceholderConst n t)) h = absurd h
   operand_of f (Parameter g i) h = h
   operand_of f (Result n) h =

@@ -1,6 +1,8 @@
 -- A module with its structs under other names is a module still, if names that differ differ still.
-use Rattle.std.proofs.Common.{◌≡◌, ◌<◌, ℕ, Bool, if◌then◌else◌, IsTrue, List, [], Option, Some, None, length, slice_get, refl, sym, ap, ◌∙◌, subst, All, true}
+use Rattle.std.proofs.Common.{◌≡◌, ◌<◌, ℕ, Bool, if◌then◌else◌, IsTrue, List, [], Option, Some, None, nat_eq, false, length, slice_get, refl, sym, ap, ◌∙◌, subst, All, true}
 use Rattle.std.proofs.Math.Path.{fun_ext}
+use Rattle.std.specs.List.{find}
+use Rattle.std.specs.Str.{bytes_eq}
 use Rattle.std.specs.Option.{option_map, option_map_or, option_and_then}
 use Rattle.std.specs.Prelude.{IfSome}
 use Rattle.std.proofs.lemmas.List.{length-map}
@@ -11,7 +13,9 @@ use Rattle.kinds.specs.Fill.{is_own_fill}
 use Rattle.kinds.specs.Fitting as F
 use Rattle.kinds.specs.Fitting.{fits, view_shape, view_same}
 use Rattle.kinds.specs.Table.{rule_of}
+use Rattle.kinds.specs.declared.types.VectorTypeKind.TheVariants as N
 use Rattle.llvm_core.specs.declared.numbers.LLVMType.{LLVMType}
+use Rattle.llvm_core.specs.declared.numbers.LLVMConst.{LLVMConst}
 use Rattle.llvm_core.specs.declared.types.LLVMTypeKind.{LLVMTypeKind}
 use Rattle.llvm_core.specs.declared.types.LLVMTypeKind.TheVariants as T
 use Rattle.llvm_core.specs.declared.types.ResultType.{ResultType}
@@ -29,10 +33,13 @@ use Rattle.llvm_core.specs.declared.code.Row.{Row}
 use Rattle.llvm_core.specs.declared.code.FunctionData.{FunctionData}
 use Rattle.llvm_core.specs.declared.code.InstData.{InstData}
 use Rattle.llvm_core.specs.Module.{Module}
-use Rattle.llvm_core.specs.Parts.{IsTypeOver, HasFitParts, IsConstOver, IsFunctionType, IsValue, IsEntry, HasValues, given, result_type, value_type, view}
+use Rattle.llvm_core.specs.Consts.{struct_named, AreElements, IsListOf, IsConstIn, is_byte_array, list_form}
+use Rattle.llvm_core.specs.Parts.{IsTypeOver, HasFitParts, IsFunctionType, is_kind, IsValue, IsEntry, HasValues, given, result_type, value_type, view}
 use Rattle.llvm_core.specs.Sound.{AreFieldsIn, IsStructIn, IsFunctionIn, IsInstIn, StandsFor, IsModule}
 use Rattle.llvm_core.specs.Data.{AreApart}
 use Rattle.llvm_core.proofs.ApartLemmas.{apart}
+use Rattle.meaning.proofs.RenamedLaws.{find_map}
+use Rattle.renamed_source.proofs.FittingLaws.{names_apart}
 use Rattle.renamed_source.specs.Names.{renamed_kind, renamed_struct_data, renamed_store}
 use Rattle.renamed_source.proofs.KindLaws.{mapped_at, mapped_from, mapped_once, renamed_shape_of, renamed_shapes, renamed_views, renamed_type_params, kind_over, kind_fits, kind_injective}
 
@@ -79,10 +86,65 @@ module _ (to : List ℕ → List ℕ) (m : Module) where
   all_within : (ts : List LLVMType) → All (λ (t : LLVMType). t.0 < length m.types) ts → All (λ (t : LLVMType). t.0 < length other.types) ts
   all_within ts h = All-weaker (λ (t : LLVMType). t.0 < length m.types) (λ (t : LLVMType). t.0 < length other.types) (λ t lt. same_count t.0 lt) ts h
 
-  const_there : (k : LLVMConstKind) → IsConstOver m.types k → IsConstOver other.types k
-  const_there (C.Int t value) h = (h.0, mapped_at (renamed_kind to) m.types t.0 (T.Int h.0) h.1, h.2)
-  const_there (C.Filled fill t) h = (same_count t.0 h.0, ap (λ (s : LLVMType → Shape). is_own_fill fill (s t)) (renamed_shapes to m.types) ∙ h.1)
-  const_there (C.Placeholder number t) h = same_count t.0 h
+  -- names that differ differ still
+  abbrev KeepsApart : Type 0
+  KeepsApart = (a b : List ℕ) → to a ≡ to b → a ≡ b
+
+  named_there : KeepsApart → (name : List ℕ) (x : StructData) → struct_named m.structs name ≡ Some x → struct_named other.structs (to name) ≡ Some (renamed_struct_data to x)
+  named_there apart name x at =
+      find_map (renamed_struct_data to) (λ (s : StructData). bytes_eq s.name (to name)) m.structs
+      ∙ ap (λ (p : StructData → Bool). option_map (renamed_struct_data to) (find p m.structs)) (fun_ext (λ s. names_apart to apart s.name name (bytes_eq (to s.name) (to name)) (bytes_eq s.name name) refl refl))
+      ∙ ap (option_map (renamed_struct_data to)) at
+
+  element_there : KeepsApart → (k : LLVMTypeKind) (ts : List LLVMType) → AreElements m.structs k ts → AreElements other.structs (renamed_kind to k) ts
+  element_there apart T.Void ts h = h
+  element_there apart (T.Int width) ts h = h
+  element_there apart (T.Ptr space) ts h = h
+  element_there apart (T.Floating of) ts h = h
+  element_there apart (T.Other of) ts h = h
+  element_there apart (T.Array count t) ts h = h
+  element_there apart (T.Vector N.Fixed count t) ts h = h
+  element_there apart (T.Vector N.Scalable count t) ts h = h
+  element_there apart (T.Literal fields layout) ts h = h
+  element_there apart (T.Named name) ts (x, b, found, body, is) = (renamed_struct_data to x, b, named_there apart name x found, body, is)
+  element_there apart (T.Function result params variadic) ts h = h
+
+  list_there : KeepsApart → (t : LLVMType) (cs : List LLVMConst) → IsListOf m.types m.consts m.structs t cs → IsListOf other.types other.consts other.structs t cs
+  list_there apart t cs h = record {
+    kind = renamed_kind to h.kind;
+    parts = h.parts;
+    typed = mapped_at (renamed_kind to) m.types t.0 h.kind h.typed;
+    fit = element_there apart h.kind h.parts h.fit;
+    count = h.count;
+    each = h.each;
+  }
+
+  -- whether it is an array of integers of 8 bits stays
+  bytes_there : (t : LLVMType) (k : LLVMTypeKind) → slice_get m.types t.0 ≡ Some k → is_kind (is_byte_array other.types) other.types t ≡ is_kind (is_byte_array m.types) m.types t
+  bytes_there t k at = ap (λ (o : Option LLVMTypeKind). option_map_or (is_byte_array other.types) o false) (mapped_at (renamed_kind to) m.types t.0 k at) ∙ by k ∙ ap (λ (o : Option LLVMTypeKind). option_map_or (is_byte_array m.types) o false) (sym at)
+    where
+      by : (k : LLVMTypeKind) → is_byte_array other.types (renamed_kind to k) ≡ is_byte_array m.types k
+      by (T.Array count e) = ap (λ (s : LLVMType → Shape). nat_eq (F.width_of (s e)) 8) (renamed_shapes to m.types)
+      by T.Void = refl
+      by (T.Int width) = refl
+      by (T.Ptr space) = refl
+      by (T.Floating of) = refl
+      by (T.Other of) = refl
+      by (T.Vector kind count e) = refl
+      by (T.Literal fields layout) = refl
+      by (T.Named name) = refl
+      by (T.Function result params variadic) = refl
+
+  list_same : (t : LLVMType) (cs : List LLVMConst) → IsListOf m.types m.consts m.structs t cs → list_form other.types other.consts t cs ≡ list_form m.types m.consts t cs
+  list_same t cs h = let same = bytes_there t h.kind h.typed in cc
+
+  pub const_there : KeepsApart → (k : LLVMConstKind) → IsConstIn m k → IsConstIn other k
+  const_there apart (C.Int t value) h = (h.0, mapped_at (renamed_kind to) m.types t.0 (T.Int h.0) h.1, h.2)
+  const_there apart (C.Filled fill t) h = (same_count t.0 h.0, ap (λ (s : LLVMType → Shape). is_own_fill fill (s t)) (renamed_shapes to m.types) ∙ h.1)
+  const_there apart (C.Bytes t bytes) (((e, at, byte), few), form) = (((e, mapped_at (renamed_kind to) m.types t.0 (T.Array (length bytes) e) at, mapped_at (renamed_kind to) m.types e.0 (T.Int 8) byte), few), form)
+  const_there apart (C.List t elements) h = (list_there apart t elements h.0, list_same t elements h.0 ∙ h.1)
+  const_there apart (C.Splat t element) ((count, e, at, is), form) = ((count, e, mapped_at (renamed_kind to) m.types t.0 (T.Vector N.Scalable count e) at, is), form)
+  const_there apart (C.Placeholder number t) h = same_count t.0 h
 
   fields_there : (b : StructFields) → AreFieldsIn m.types b → AreFieldsIn other.types b
   fields_there b h = record {
@@ -150,7 +212,8 @@ module _ (to : List ℕ → List ℕ) (m : Module) where
     types = type_over s;
     types_fit = type_fits s;
     types_once = mapped_once (renamed_kind to) (kind_injective to injective) m.types s.types_once;
-    consts = λ i k at. const_there k (s.consts i k at);
+    consts = λ i k at. const_there injective k (s.consts i k at);
+    consts_below = s.consts_below;
     consts_once = s.consts_once;
     structs = structs_there s.structs;
     functions = λ f x at. function_there x (s.functions f x at);

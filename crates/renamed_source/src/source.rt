@@ -5,7 +5,8 @@ ghost use Rattle.std.specs.Option.{option_map};
 ghost use Rattle.support.specs.Interned.{IsDistinctList};
 ghost use Rattle.llvm_core.specs.declared.types.LLVMTypeKind.TheVariants as T;
 ghost use Rattle.llvm_core.specs.Code.{param_names};
-ghost use Rattle.llvm_core.specs.Parts.{IsTypeOver, HasFitParts, IsConstOver, IsFunctionType, IsValue, HasValues, type_params, value_type};
+ghost use Rattle.llvm_core.specs.Consts.{IsConstIn, IsMadeBelow};
+ghost use Rattle.llvm_core.specs.Parts.{IsTypeOver, HasFitParts, IsFunctionType, IsValue, HasValues, type_params, value_type};
 ghost use Rattle.llvm_core.specs.Sound.{IsModule};
 ghost use Rattle.llvm_core.specs.Data.{AreApart};
 ghost use Rattle.dialect_types.specs.Names.{IsIdentifier};
@@ -110,7 +111,8 @@ impl<'a> Source<'a> {
     pub fn const_kind(&self, c: LLVMConst) -> &LLVMConstKind
         requires { c.0 < length self.now.consts }
         ensures kind { slice_get self.now.consts c.0 ≡ Some result.now }
-        ensures parts { IsConstOver self.now.types result.now }
+        ensures parts { IsConstIn self.now result.now }
+        ensures below { IsMadeBelow c.0 result.now }
     {
         self.module.const_kind(c)
     }

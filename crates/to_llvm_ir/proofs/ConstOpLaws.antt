@@ -16,7 +16,8 @@ use Rattle.llvm_core.specs.declared.consts.LLVMConstKind.{LLVMConstKind}
 use Rattle.llvm_core.specs.declared.consts.LLVMConstKind.TheVariants as C
 use Rattle.llvm_core.specs.Module.{Module}
 use Rattle.llvm_core.specs.Sound.{IsModule}
-use Rattle.llvm_core.specs.Parts.{IsIntAt, const_type, one_form}
+use Rattle.llvm_core.specs.Consts.{one_form}
+use Rattle.llvm_core.specs.Parts.{IsIntAt, const_type}
 use Rattle.llvm_core.specs.Data.{ConstTree, IntConst, FilledConst, filled_const, const_tree, trees_of}
 use Rattle.llvm_core.proofs.WholeTypes.{shape_there}
 use Rattle.dialect_types.specs.declared.types.TypeHandle.{TypeHandle}
@@ -109,7 +110,7 @@ filled_some c op s fill r h at own none =
     none-some filled.type (sym lacks ∙ filled.result)
 
 -- the one form of such a constant has the type
-form_typed : (m : Module) (fill : Fill) (ty : LLVMType) → const_type (one_form m.types (C.Filled fill ty)) ≡ ty
+form_typed : (m : Module) (fill : Fill) (ty : LLVMType) → const_type (one_form m (C.Filled fill ty)) ≡ ty
 form_typed m fill ty = by _
   where
     by : (b : Bool) → const_type (if b then C.Filled fill ty else C.Int ty 0) ≡ ty
@@ -117,7 +118,7 @@ form_typed m fill ty = by _
     by false = refl
 
 -- and its tree is that of one form
-form_tree : (m : Module) (cs : List ConstTree) (fill : Fill) (ty : LLVMType) (t : TypeTree) → IsModule m → IsTypeOf m ty t → const_tree (trees_of m).types cs (one_form m.types (C.Filled fill ty)) ≡ filled_const fill t
+form_tree : (m : Module) (cs : List ConstTree) (fill : Fill) (ty : LLVMType) (t : TypeTree) → IsModule m → IsTypeOf m ty t → const_tree (trees_of m).types cs (one_form m (C.Filled fill ty)) ≡ filled_const fill t
 form_tree m cs fill ty t sound type =
     ap (λ (s : Shape). const_tree (trees_of m).types cs (if is_own_fill fill s then C.Filled fill ty else C.Int ty 0)) (shape_there m sound ty type.0 ∙ ap shape type.1) ∙ by (is_own_fill fill (shape t))
   where
@@ -142,7 +143,7 @@ int_for m o type value from ty parts ty_is from_is = record {
   tree = λ cs. ap (λ (u : TypeTree). IntConst (width_in u) from) ty_is.1 ∙ ap (IntConst (width_in type)) from_is ∙ sym (ap (constant_of o.result) parts.kind);
 }
 
-pub filled_for : (m : Module) (o : DialectOp) (fill : Fill) (type : TypeTree) (ty : LLVMType) → IsModule m → FilledParts o fill type → IsTypeOf m ty type → IsConstFor o type m (one_form m.types (C.Filled fill ty))
+pub filled_for : (m : Module) (o : DialectOp) (fill : Fill) (type : TypeTree) (ty : LLVMType) → IsModule m → FilledParts o fill type → IsTypeOf m ty type → IsConstFor o type m (one_form m (C.Filled fill ty))
 filled_for m o fill type ty sound parts ty_is = record {
   constant = ap is_constant_kind parts.kind;
   result = parts.result;

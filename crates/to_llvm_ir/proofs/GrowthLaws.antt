@@ -31,7 +31,7 @@ use Rattle.llvm_core.specs.Data.{TypeTree, IntType, type_at, type_tree, const_at
 use Rattle.support.proofs.ListLaws.{slice_get-kept, item_there}
 use Rattle.llvm_core.proofs.TreeLemmas.{type_at-kept, const_trees-retyped, const_at-kept}
 use Rattle.llvm_core.proofs.DataLemmas.{type_tree_of}
-use Rattle.llvm_core.proofs.WithinLemmas.{value_type_within}
+use Rattle.llvm_core.proofs.WithinLemmas.{const_types_within, value_type_within}
 use Rattle.to_llvm_ir.specs.Growth.{Grows, KeepsInst, IsTypeOf, AreTypesOf, HasType}
 
 -- ---- growth
@@ -169,7 +169,7 @@ operand_kept old new (V.Const c) t s g h =
     (ap (λ (ks : List LLVMTypeKind). const_at (const_trees (type_trees ks) new.consts) c) g.types
     ∙ ap (λ (cs : List LLVMConstKind). const_at (const_trees (type_trees (old.types ++ g.more_types)) cs) c) g.consts
     ∙ const_at-kept (type_trees (old.types ++ g.more_types)) old.consts g.more_consts c.0 within
-    ∙ ap (λ (cs : List L.ConstTree). const_at cs c) (const_trees-retyped old.types g.more_types old.consts s.consts))
+    ∙ ap (λ (cs : List L.ConstTree). const_at cs c) (const_trees-retyped old.types g.more_types old.consts (const_types_within old s)))
 operand_kept old new (V.Param f place) t s g h = refl
 operand_kept old new (V.Inst i) t s g h = refl
 

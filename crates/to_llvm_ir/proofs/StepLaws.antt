@@ -199,7 +199,7 @@ module _ (c : ContextData) (op : OpRef) (s : Spot) (values' : Values) (m : Modul
       let grows = grows_then m m1 m2 g1 g2 in
       let ty2 = type_kept m1 m2 (const_type kind) type g2 const.typed in
       let tree : const_at (trees_of m2).consts k ≡ constant_of s.op.result s.op.kind =
-      const_tree_of m2 k kind interned.here ∙ ap (λ (x : Module). const_tree (trees_of x).types (trees_of m2).consts kind) rest2 ∙ const.tree (trees_of m2).consts in
+      const_tree_of m2 k kind interned.here (sound.consts_below k.0 kind interned.here) ∙ ap (λ (x : Module). const_tree (trees_of x).types (trees_of m2).consts kind) rest2 ∙ const.tree (trees_of m2).consts in
       let key : Result op ≡ result s.op = ap (λ (i : ℕ). Result (record { 0 = i })) (sym (spot_parts c op s next.spot).number) in
       let operand = constant_operand g next.spot.task.form n next.spot.task.order.once no_entries s.place s.at (record { 0 = s.op.number }) s.block s.op next.spot.here next.spot.there refl const.constant in
       record {

@@ -6,6 +6,7 @@ use Rattle.kinds.specs.Types.{shape}
 use Rattle.kinds.specs.Held.{width_in}
 use Rattle.llvm_core.specs.declared.numbers.LLVMType.{LLVMType}
 use Rattle.llvm_core.specs.declared.numbers.LLVMConst.{LLVMConst}
+use Rattle.llvm_core.specs.declared.consts.LLVMConstKind.{LLVMConstKind}
 use Rattle.llvm_core.specs.declared.consts.LLVMConstKind.TheVariants as C
 use Rattle.llvm_core.specs.declared.numbers.LLVMInstRef.{LLVMInstRef}
 use Rattle.llvm_core.specs.declared.code.LLVMValue.{LLVMValue}
@@ -16,15 +17,16 @@ use Rattle.llvm_core.specs.declared.code.Row.{Row}
 use Rattle.llvm_core.specs.declared.code.PhiEntry.{PhiEntry}
 use Rattle.llvm_core.specs.Module.{Module}
 use Rattle.llvm_core.specs.declared.code.InstData.{InstData}
-use Rattle.llvm_core.specs.Parts.{IsConstOver, value_type, is_phi}
+use Rattle.llvm_core.specs.Consts.{IsConstIn}
+use Rattle.llvm_core.specs.Parts.{value_type, is_phi}
 use Rattle.llvm_core.specs.Sound.{IsModule}
 use Rattle.llvm_core.specs.Data as D
-use Rattle.llvm_core.specs.Data.{Placed, Instruction, placed_of, row_of, instruction_of, TypeTree, IntType, type_at, const_at, trees_of, operand_of, operand_type, phi_entries}
+use Rattle.llvm_core.specs.Data.{Placed, Instruction, placed_of, row_of, instruction_of, TypeTree, IntType, type_at, const_at, const_tree, trees_of, operand_of, operand_type, phi_entries}
 use Rattle.std.specs.Option.{is_some, option_map}
 use Rattle.std.proofs.lemmas.Option.{none-some, same_Some}
 use Rattle.llvm_core.specs.Form as F
 use Rattle.llvm_core.specs.Edges.{targets as leads_to}
-use Rattle.llvm_core.proofs.DataLemmas.{int_const_of, filled_const_of, placeholder_const_of}
+use Rattle.llvm_core.proofs.DataLemmas.{int_const_of, filled_const_of, const_tree_of}
 use Rattle.llvm_core.proofs.WholeTypes.{shape_there}
 use Rattle.llvm_core.proofs.FormEdges.{same_targets}
 use Rattle.llvm_core.proofs.FormPlaces.{same_kind_phi}
@@ -34,7 +36,7 @@ use Rattle.llvm_core.proofs.CheckedForm.{meets}
 use Rattle.tracing.proofs.CheckedLaws.{row_used}
 use Rattle.meaning.specs.Machine as Machine
 use Rattle.meaning.specs.Machine.{Operand, Applies}
-use Rattle.meaning.specs.Terms.{Term, Int, Filled}
+use Rattle.meaning.specs.Terms.{Term, Unset, Int, Filled}
 use Rattle.meaning.specs.Llvm.{const_term, operand, action, row}
 use Rattle.tracing.specs.Renamed.{renamed, renamed_action, renamed_row}
 use Rattle.tracing.specs.Types.{Stands, AllStand}
@@ -70,15 +72,15 @@ module _ (m : Module) (sound : IsModule m) (c : LLVMConst) where
   int_held trees t width value at int = λ later more. (sym (ap (const_term (setting_in m)) (int_const_of m c t value at) ∙ ap (λ (u : TypeTree). Int (width_in u) value) int), tt)
 
   -- a module keeps no zero of an integer type beside the integer 0
-  pub filled_as : (trees : List TypeTree) (fill : Fill) (t place : LLVMType) → slice_get m.consts c.0 ≡ Some (C.Filled fill t) → IsConstOver m.types (C.Filled fill t) → Stands trees place (type_at (trees_of m).types t) → IsHeldAs trees (H.Filled fill place) term
+  pub filled_as : (trees : List TypeTree) (fill : Fill) (t place : LLVMType) → slice_get m.consts c.0 ≡ Some (C.Filled fill t) → IsConstIn m (C.Filled fill t) → Stands trees place (type_at (trees_of m).types t) → IsHeldAs trees (H.Filled fill place) term
   filled_as trees fill t place at over stands =
       let u = type_at (trees_of m).types t in
       let own : is_own_fill fill (shape u) ≡ true = ap (is_own_fill fill) (sym (shape_there m sound t over.0)) ∙ over.1 in
       let is : term ≡ Filled fill u = ap (const_term (setting_in m)) (filled_const_of m c fill t at) ∙ ap (λ (b : Bool). if b then Filled fill u else Int (width_in u) 0) own in
       subst (IsHeldAs trees (H.Filled fill place)) (sym is) (filled_held trees fill place u stands)
 
-  pub placeholder_held : (trees : List TypeTree) (number : ℕ) (t : LLVMType) → slice_get m.consts c.0 ≡ Some (C.Placeholder number t) → IsHeldAs trees H.Unset term
-  placeholder_held trees number t at = λ later more. (sym (ap (const_term (setting_in m)) (placeholder_const_of m c number t at)), tt)
+  pub unset_held : (trees : List TypeTree) (k : LLVMConstKind) → slice_get m.consts c.0 ≡ Some k → const_term (setting_in m) (const_tree (trees_of m).types (trees_of m).consts k) ≡ Unset → IsHeldAs trees H.Unset term
+  unset_held trees k at is = λ later more. (sym (ap (const_term (setting_in m)) (const_tree_of m c k at (sound.consts_below c.0 k at)) ∙ is), tt)
 
 -- ---- an instruction that is no phi
 

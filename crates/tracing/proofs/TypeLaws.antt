@@ -89,6 +89,7 @@ only_sound ks table once = record {
   types_fit = λ i k at. fit_by_tree ks table.over i (omega (arith, slice_get_within ks i k at)) k (table.over i k at) (table.fit i k at);
   types_once = once;
   consts = λ i x at. absurd (none-some x at);
+  consts_below = λ i x at. absurd (none-some x at);
   consts_once = λ i j x at at'. absurd (none-some x at);
   structs = All-nil (IsStructIn ks);
   functions = λ i x at. absurd (none-some x at);

@@ -57,6 +57,10 @@ fn constant(
             let place = place(alloc, types, m, *ty)?;
             Ok(Held::Filled(*fill, place))
         }
+        // No module of the form uses one.
+        LLVMConstKind::Bytes(..) => Ok(Held::Unset),
+        LLVMConstKind::List(..) => Ok(Held::Unset),
+        LLVMConstKind::Splat(..) => Ok(Held::Unset),
         LLVMConstKind::Placeholder(..) => Ok(Held::Unset),
     }
 }

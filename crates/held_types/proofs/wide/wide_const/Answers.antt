@@ -1,11 +1,11 @@
 -- What `wide::wide_const` owes besides what the check finds.
-use Rattle.std.proofs.Common.{◌≡◌, ◌∙◌, ap, Some}
+use Rattle.std.proofs.Common.{◌∙◌, ap, Some}
 use Rattle.std.proofs.lemmas.Option.{slice_get_within}
 use Rattle.held_types.proofs.WideLaws.{by_width_short, by_width_wide, other_short}
 use Rattle.held_types.proofs.wide.wide_const.Goals as goal
 
 pub returns-in_default : goal.returns-in_default
-returns-in_default c = record { none = λ e. other_short c.args.m.now c.args.c c.const_kind.result.now c.const_kind.ensures.kind c.in_default.not-Int; some = tt }
+returns-in_default c = record { none = λ e. other_short c.args.m.now c.args.c c.const_kind.result.now c.const_kind.ensures.kind c.const_kind.ensures.below c.in_default.not-Int; some = tt }
 
 pub type_kind-requires : goal.type_kind-requires
 type_kind-requires c = let typed = rw c.in-Int.is at c.const_kind.ensures.parts in slice_get_within _ _ _ typed.1

@@ -2,7 +2,7 @@
 use Rattle.std.proofs.Common.{Some, ap}
 use Rattle.std.proofs.lemmas.Option.{slice_get_within}
 use Rattle.llvm_core.specs.Module.{Module}
-use Rattle.llvm_core.specs.Parts.{one_form}
+use Rattle.llvm_core.specs.Consts.{one_form}
 use Rattle.llvm_core.specs.Data.{ConstTree}
 use Rattle.ll_lines.specs.Lines.{Const}
 use Rattle.ll_values.proofs.GrowLaws.{const_interned}
@@ -18,4 +18,4 @@ returns-clause-there c = slice_get_within _ _ _ c.in_ok-c.ensures.interned.here
 pub returns-clause-said : goal.returns-clause-said
 returns-clause-said c = λ bytes.
     let same = ap (λ (m : Module). m.types) c.in_ok-c.ensures.rest in
-    rw c.in-Some.is (ap (λ (t : ConstTree). Some (Const t)) (given_const c.args.m.now c.const_get.new.self c.in_ok-c.c (one_form c.args.m.now.types c.in-Some.kind) same c.in_ok-c.ensures.interned.here))
+    rw c.in-Some.is (ap (λ (t : ConstTree). Some (Const t)) (given_const c.args.m.now c.const_get.new.self c.in_ok-c.c (one_form c.args.m.now c.in-Some.kind) c.in_ok-c.ensures.sound same c.in_ok-c.ensures.interned))

@@ -3,7 +3,7 @@ use Rattle.std.proofs.Common.{◌≡◌, None}
 use Rattle.support.proofs.ResultLaws.{both}
 use Rattle.kinds.proofs.HeldLaws.{held_result_if}
 use Rattle.llvm_core.specs.declared.consts.LLVMConstKind.TheVariants as C
-use Rattle.llvm_core.specs.Parts.{one_form}
+use Rattle.llvm_core.specs.Consts.{one_form}
 use Rattle.dialect_types.specs.Trees.{type_at, type_trees}
 use Rattle.to_llvm_ir.proofs.ListLaws.{by_option}
 use Rattle.to_llvm_ir.proofs.OpLaws.{result_there}
@@ -33,5 +33,5 @@ returns c = λ s next.
     let tree = type_at (type_trees c.args.ctx.now.types) c.in-Some.ty in
     let const = filled_for m s.op c.args.fill tree c.in_ok-ty.ty type.sound parts type.tree in
     both c.set.result c.set.ensures.next c.set.ensures.found (λ _.
-    constant_done c.args.ctx.now c.args.op s c.args.values.now c.args.back.now next tree (one_form m.types (C.Filled c.args.fill c.in_ok-ty.ty)) c.in_ok-c.c m c.const_get.new.self c.set.new.self
+    constant_done c.args.ctx.now c.args.op s c.args.values.now c.args.back.now next tree (one_form m (C.Filled c.args.fill c.in_ok-ty.ty)) c.in_ok-c.c m c.const_get.new.self c.set.new.self
     const type.grows type.rest type.data made.interned made.rest made.data made.sound)
