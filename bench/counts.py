@@ -123,6 +123,36 @@ def structs(number):
     return f"define {{ i32, [{number} x ptr] }} @f{number}({{ i32, [{number} x ptr] }} %s) {{\n  ret {{ i32, [{number} x ptr] }} %s\n}}\n"
 
 
+def returned(type, value):
+    """A function that returns a constant."""
+    return f"define {type} @f() {{\n  ret {type} {value}\n}}\n"
+
+
+def array(element, part, size):
+    """One array of that element, each by its number."""
+    values = repeated(lambda k: f"{', ' if k else ''}{element} {part(k)}", size)
+    return returned(f"[{values.count(element + ' ')} x {element}]", f"[{values}]")
+
+
+def quoted_bytes(byte, size):
+    """One array of bytes between quotes, each written so."""
+    count = size // len(byte)
+    return returned(f"[{count} x i8]", 'c"' + byte * count + '"')
+
+
+def levels(number):
+    """A function that returns a constant of 998 levels of structs with names, which all such share."""
+    depth = 998
+    value = "".join(f"%L{level} {{ " for level in reversed(range(depth))) + f"i32 {number + 1}" + " }" * depth
+    types = "".join(f"%L{k} = type {{ {f'%L{k - 1}' if k else 'i32'} }}\n" for k in range(depth)) if number == 0 else ""
+    return f"{types}define %L{depth - 1} @f{number}() {{\n  ret {value}\n}}\n"
+
+
+def splat(number):
+    """A function of a vector by splat."""
+    return f"define <4 x i32> @f{number}() {{\n  ret <4 x i32> splat (i32 {number + 1})\n}}\n"
+
+
 KINDS = {
     "small functions": lambda size: repeated(small, size),
     "functions of one line": lambda size: repeated(line, size),
@@ -145,6 +175,13 @@ KINDS = {
     "a held one of many fields": held_fields,
     "taken ones, plain names": lambda size: taken(plain, size),
     "taken ones, one identifier": lambda size: taken(alike, size),
+    "constants of 998 levels": lambda size: repeated(levels, size),
+    "an array of bytes": lambda size: array("i8", lambda k: 1 + k % 255, size),
+    "an array of equal structs": lambda size: array("{ i32, i8 }", lambda k: "{ i32 1, i8 2 }", size),
+    "an array of structs": lambda size: array("{ i32, i8 }", lambda k: f"{{ i32 {k}, i8 2 }}", size),
+    "a text of bytes": lambda size: quoted_bytes("a", size),
+    "a text of codes": lambda size: quoted_bytes("\\FF", size),
+    "splats": lambda size: repeated(splat, size),
 }
 
 

@@ -3,7 +3,7 @@
 
     fuzz/allocations.py [FILE ..]
 
-Over each file (five of the examples, where none is named) it counts the allocations of
+Over each file (six of the examples, where none is named) it counts the allocations of
 `round_ll round`, and then runs it once for each of them with that one failing. A run has to end with status 8,
 its line and no output, or just as with ample memory. And for one function of 20,000 instructions it may ask for memory
 at most three times as often as for one of 200: what grows are vectors, not rows. It needs a C compiler and a loader that
@@ -73,7 +73,7 @@ def faults_of(shim, folder, path):
 
 def main():
     paths = [pathlib.Path(it) for it in sys.argv[1:]] or [
-        ROOT / "examples" / name for name in ("answer.ll", "sum.ll", "gcd.ll", "names.ll", "structs.ll")
+        ROOT / "examples" / name for name in ("answer.ll", "sum.ll", "gcd.ll", "names.ll", "structs.ll", "constants.ll")
     ]
     subprocess.run([str(ROOT / "round_ll"), "round"], stdin=subprocess.DEVNULL, stdout=subprocess.DEVNULL, check=True)
     with tempfile.TemporaryDirectory() as folder:

@@ -8,11 +8,15 @@ BARE = re.compile(r"[-A-Za-z$._][-A-Za-z$._0-9]*\Z")
 ESCAPE = re.compile(rb"\\(\\|[0-9A-Fa-f]{2})")
 
 
+def bytes_said(string):
+    """The bytes that a string says, with its quotes."""
+    return ESCAPE.sub(lambda it: b"\\" if it[1] == b"\\" else bytes([int(it[1], 16)]), bytes_of(string[1:-1]))
+
+
 def text_said(string):
     """The text that a string says, with its quotes; none where that is no UTF-8."""
-    said = ESCAPE.sub(lambda it: b"\\" if it[1] == b"\\" else bytes([int(it[1], 16)]), bytes_of(string[1:-1]))
     try:
-        return said.decode()
+        return bytes_said(string).decode()
     except UnicodeDecodeError:
         return None
 

@@ -4,7 +4,8 @@ What is no such text is `NotYet`.
 """
 import re
 
-from names import name_said, text_said
+from made_constants import Chars, Listed, Splat
+from names import bytes_said, name_said, text_said
 from value_types import (
     BIT, COUNTS, DEEPEST, FLOATING, LACKED, LENGTHS, MAX_VALUE, MAX_WIDTH, SPACES,
     Array, Floating, Integer, Lacked, Named, Pointer, Struct, Vector, depth, filled, is_element, is_field, is_integer, is_item,
@@ -41,6 +42,7 @@ TOKEN = re.compile(r"""
   | (?P<local>%[-A-Za-z$._][-A-Za-z$._0-9]*|%[0-9]+|%"[^"]*")
   | (?P<global>@[-A-Za-z$._][-A-Za-z$._0-9]*|@[0-9]+|@"[^"]*")
   | (?P<string>"[^"]*")
+  | (?P<chars>c"[^"]*")
   | (?P<int>i[0-9]+(?![A-Za-z0-9_.]))
   | (?P<word>[A-Za-z_][A-Za-z0-9_.]*)
   | (?P<number>(?!0x)-?[0-9]+)
@@ -188,11 +190,19 @@ class Reader:
         return text if text.isdigit() else said(name_said, text)
 
     def value(self, type):
-        """A constant as (type, value), or the name or number of a local."""
+        """A constant as it is written, (type, value), or the name or number of a local."""
+        return self.name("local") if self.peek()[0] == "local" else self.constant(type)
+
+    def constant(self, type):
+        """A constant as it is written: what those that are made of others mean, `made_constants.meant` says."""
         kind, text = self.peek()
-        if kind == "local":
-            return self.name("local")
         self.at += 1
+        if kind == "chars":
+            return (type, Chars(bytes_said(text[1:])))
+        if (kind, text) == ("word", "splat"):
+            return (type, self.splat())
+        if kind == "sign":
+            return (type, self.listed(text))
         if kind == "word" and text in ("true", "false"):
             need(type == BIT, f"value {text!r}")
             return (BIT, int(text == "true"))
@@ -206,6 +216,30 @@ class Reader:
         need(-(1 << (width - 1)) <= number < (1 << min(width, MAX_VALUE)), f"range of {text}")
         need(number >= 0 or width <= MAX_VALUE, f"{text} at more than {MAX_VALUE} bits")
         return (type, number % (1 << width))
+
+    def element(self):
+        return self.constant(self.type())
+
+    def splat(self):
+        self.want("(")
+        element = self.element()
+        self.want(")")
+        return Splat(element)
+
+    def listed(self, opening):
+        """Elements behind a bracket, with the one that closes them."""
+        need(opening in ("[", "<", "{"), f"value {opening!r}")
+        brackets = "<{" if opening == "<" and self.skip("{") else opening
+        closing = {"[": "]", "<": ">", "{": "}", "<{": "}"}[brackets]
+        elements = []
+        if not self.skip(closing):
+            elements.append(self.element())
+            while self.skip(","):
+                elements.append(self.element())
+            self.want(closing)
+        if brackets == "<{":
+            self.want(">")
+        return Listed(brackets, tuple(elements))
 
     def file(self):
         module = Node(name="", structs=[], functions=[])

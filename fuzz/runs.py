@@ -20,6 +20,11 @@ def built():
     return str(ROOT / "crates/program/out/program")
 
 
+def tool(name):
+    """An installed tool of an LLVM of any version, none where there is none."""
+    return shutil.which(f"{name}-19") or shutil.which(name)
+
+
 def tool_of_19(tool):
     """An installed tool of an LLVM of version 19 or later, none where there is none."""
     for path in filter(None, map(shutil.which, [f"{tool}-19", tool])):

@@ -6,7 +6,7 @@ MARKS = {
     '<': 'Less', '>': 'Greater', '!': 'Bang', '|': 'Bar', '...': 'Dots',
 }
 # classes of kinds of tokens, whatever their text
-KINDS = {'GLOBAL': 'Global', 'LOCAL': 'Local', 'LABEL': 'Label', 'INT': 'Int', 'STR': 'Str'}
+KINDS = {'GLOBAL': 'Global', 'LOCAL': 'Local', 'LABEL': 'Label', 'INT': 'Int', 'STR': 'Str', 'CSTR': 'CStr'}
 # merged classes whose laws hold of any word of the class: a proof knows the class of a word from a table, not from a law for each word
 WHOLE = {'FLAT'}
 
@@ -16,7 +16,7 @@ use Rattle.std.specs.Prelude.{unwrap_or}
 use Rattle.ll_classes.specs.Classes.{other_word}
 use Rattle.ll_classes.specs.Llvm.{llvm_class, llvm_rows}
 use Rattle.ll_classes.specs.Words.{class_among}
-use Rattle.ll_tokens.specs.declared.kinds.Kind.TheVariants.{Word, Global, Local, Label, Int, Str%s}
+use Rattle.ll_tokens.specs.declared.kinds.Kind.TheVariants.{Word, Global, Local, Label, Int, Str, CStr%s}
 use Rattle.ll_lines.specs.Lines.{Text}
 '''
 
@@ -25,7 +25,7 @@ use Rattle.std.proofs.Common.{◌≡◌, ℕ, true, false, List, [], ◌∷◌, 
 use Rattle.ll_classes.specs.Llvm.{llvm_class}
 use Rattle.ll_rules.specs.Llvm.{llvm}
 use Rattle.ll_spacing.specs.Spacing.{Spaced}
-use Rattle.ll_tokens.specs.declared.kinds.Kind.TheVariants.{Word, Global, Local, Label, Int, Str%s}
+use Rattle.ll_tokens.specs.declared.kinds.Kind.TheVariants.{Word, Global, Local, Label, Int, Str, CStr%s}
 use Rattle.ll_values.specs.declared.form.Kind.TheVariants as K
 use Rattle.ll_values.specs.declared.form.DetailKind.TheVariants as D
 use Rattle.ll_values.specs.declared.form.ListKind.TheVariants as L

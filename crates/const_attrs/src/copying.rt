@@ -7,7 +7,7 @@ use crate::const_attr::ConstAttr;
 use std::alloc::{AllocError, Global};
 
 impl ConstAttr {
-    /// A copy, which equals its source.
+    /// A copy, whose data are those of its source.
     #[cycle(clone)]
     pub fn clone(&self, alloc: Global) -> Result<ConstAttr, AllocError>
         ensures { IfOk result (λ c. attr_data c ≡ attr_data self.now) }

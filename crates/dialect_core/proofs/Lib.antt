@@ -35,6 +35,7 @@ pub mod FuncLemmas
 pub mod FromLemmas
 pub mod FuncTestLemmas
 pub mod OwnEdgeLaws
+pub mod PlainLaws
 pub mod HeldLemmas
 pub mod HoldLemmas
 pub mod CountLemmas

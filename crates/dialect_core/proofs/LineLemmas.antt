@@ -10,10 +10,10 @@ use Rattle.dialect_core.specs.declared.ops.OpKind.{OpKind}
 use Rattle.dialect_core.specs.declared.ops.OpKind.TheVariants as K
 use Rattle.dialect_core.specs.declared.ops.OpData.{OpData}
 use Rattle.dialect_core.specs.Lists.{Once}
-use Rattle.dialect_core.specs.ContextData.{ContextData, is_plain}
+use Rattle.dialect_core.specs.ContextData.{ContextData, IsPlainKindAt, kind_at, is_plain}
 use Rattle.dialect_core.specs.Data.{Kind, DialectOp, Func, kind_of, op_of, op_at, type_in}
 use Rattle.dialect_core.specs.Form.{EndsInOnly, is_terminator, is_terminator_kind}
-use Rattle.dialect_core.specs.WellFormed.{IsPlainAt, IsPastFirsts, IsWellFormedOp}
+use Rattle.dialect_core.specs.WellFormed.{KeepsRules, IsPlainAt, IsPastFirsts, IsWellFormedOp}
 use Rattle.dialect_core.specs.Checking.{AreLines, IsLine, IsOpAt, ends_kind, ends_at}
 
 -- ---- all items, by their places
@@ -40,19 +40,12 @@ kind_plain ts (K.Constant v) h = (_, refl, refl)
 kind_plain ts (K.Filled fill) h = (_, refl, refl)
 kind_plain ts (K.Row op) h = (_, refl, refl)
 
-plain_kind : (ts : List TypeTree) (k : OpKind) (d : Kind) → kind_of ts k ≡ Some d → is_plain k ≡ true
-plain_kind ts K.Module d h = absurd (none-some d h)
-plain_kind ts K.Func d h = absurd (none-some d h)
-plain_kind ts (K.Constant v) d h = refl
-plain_kind ts (K.Filled fill) d h = refl
-plain_kind ts (K.Row op) d h = refl
-
 module _ (c : ContextData) where
   abbrev op : OpRef → Option DialectOp
   op o = op_at (type_trees c.types) c.ops o
 
-  pub plain_op : (o : OpRef) → IsPlainAt c o → (d : DialectOp) × (op o ≡ Some d) × (is_terminator d ≡ ends_at c o)
-  plain_op o p = by (slice_get c.ops o.0) refl p.1
+  pub kind_op : (o : OpRef) → IsPlainKindAt c.ops o → (d : DialectOp) × (op o ≡ Some d) × (is_terminator d ≡ ends_at c o)
+  kind_op o p = by (slice_get c.ops o.0) refl p.1
     where
       by : (x : Option OpData) → slice_get c.ops o.0 ≡ x → option_map (λ (x : OpData). x.kind) x ≡ Some p.0
           → (d : DialectOp) × (option_and_then (op_of (type_trees c.types) o) x ≡ Some d) × (is_terminator d ≡ option_map_or (λ (x : OpData). ends_kind x.kind) x false)
@@ -61,26 +54,24 @@ module _ (c : ContextData) where
           let k = kind_plain (type_trees c.types) x.kind (ap is_plain (same_Some x.kind p.0 e) ∙ p.2) in
           (_, ap (option_map _) k.1, k.2)
 
-  pub op_plain : (o : OpRef) (d : DialectOp) → op o ≡ Some d → IsPlainAt c o
-  op_plain o d h = by (slice_get c.ops o.0) refl h
-    where
-      kind : (x : OpData) (k : Option Kind) → kind_of (type_trees c.types) x.kind ≡ k → option_map (λ (k : Kind). record { number = o.0; name = x.name; kind = k; operands = x.operands; successors = x.successors; result = option_map (type_at (type_trees c.types)) x.result }) k ≡ Some d → is_plain x.kind ≡ true
-      kind x None is e = absurd (none-some d e)
-      kind x (Some k) is e = plain_kind (type_trees c.types) x.kind k is
+  pub plain_op : (o : OpRef) → IsPlainAt c o → (d : DialectOp) × (op o ≡ Some d) × (is_terminator d ≡ ends_at c o)
+  plain_op o p = kind_op o (p.0, p.1, p.2)
 
-      by : (x : Option OpData) → slice_get c.ops o.0 ≡ x → option_and_then (op_of (type_trees c.types) o) x ≡ Some d → (k : OpKind) × (option_map (λ (x : OpData). x.kind) x ≡ Some k) × (is_plain k ≡ true)
-      by None at e = absurd (none-some d e)
-      by (Some x) at e = (x.kind, refl, kind x (kind_of (type_trees c.types) x.kind) refl e)
+  -- an operation of a kind that is plain
+  pub plain_is : (o : OpRef) (kind : OpKind) (t : Bool) → kind_at c.ops o ≡ Some kind → (IsTrue t ↔ ((is_plain kind ≡ true) × KeepsRules c kind)) → IsTrue t ↔ IsPlainAt c o
+  plain_is o kind t is h =
+      let P : OpKind → Type 0 = λ k. (is_plain k ≡ true) × KeepsRules c k in
+      (λ yes. let k = h.0 yes in (kind, is, k.0, k.1), λ w. h.1 (subst P (same_Some w.0 kind (sym w.1 ∙ is)) (w.2, w.3)))
 
-  ends_is : (o : OpRef) (d : DialectOp) → op o ≡ Some d → is_terminator d ≡ ends_at c o
-  ends_is o d h = let p = plain_op o (op_plain o d h) in ap is_terminator (same_Some d p.0 (sym h ∙ p.1)) ∙ p.2
+  ends_is : (o : OpRef) (d : DialectOp) → IsPlainAt c o → op o ≡ Some d → is_terminator d ≡ ends_at c o
+  ends_is o d plain h = let p = plain_op o plain in ap is_terminator (same_Some d p.0 (sym h ∙ p.1)) ∙ p.2
 
   -- ---- lines
 
   module _ (g : Func) where
     -- an operation by its kind
-    pub line_is : (o : OpRef) (next : Option OpRef) (kind : OpKind) (t : Bool) → option_map (λ (x : OpData). x.kind) (slice_get c.ops o.0) ≡ Some kind → ends_kind kind ≡ is_none next → IsPastFirsts c o → (IsTrue t ↔ IsOpAt c g o) → IsTrue t ↔ IsLine c g o next
-    line_is o next kind t is ends past h = (λ yes. record { fits = h.0 yes; ends = kind_ends (slice_get c.ops o.0) is ∙ ends; past_firsts = past }, λ w. h.1 w.fits)
+    pub line_is : (o : OpRef) (next : Option OpRef) (kind : OpKind) (t : Bool) → option_map (λ (x : OpData). x.kind) (slice_get c.ops o.0) ≡ Some kind → ends_kind kind ≡ is_none next → IsPlainAt c o → IsPastFirsts c o → (IsTrue t ↔ IsOpAt c g o) → IsTrue t ↔ IsLine c g o next
+    line_is o next kind t is ends plain past h = (λ yes. record { plain = plain; fits = h.0 yes; ends = kind_ends (slice_get c.ops o.0) is ∙ ends; past_firsts = past }, λ w. h.1 w.fits)
       where
         kind_ends : (x : Option OpData) → option_map (λ (x : OpData). x.kind) x ≡ Some kind → option_map_or (λ (x : OpData). ends_kind x.kind) x false ≡ ends_kind kind
         kind_ends None e = absurd (none-some kind e)
@@ -88,7 +79,7 @@ module _ (c : ContextData) where
 
     pub lines_plain : (xs : List OpRef) → AreLines c g xs → All (IsPlainAt c) xs
     lines_plain [] h = all_none (IsPlainAt c)
-    lines_plain (x ∷ xs) h = λ k d l. all_cons (IsPlainAt c) x xs (op_plain x h.0.fits.0 h.0.fits.1) (lines_plain xs h.1) k d l
+    lines_plain (x ∷ xs) h = λ k d l. all_cons (IsPlainAt c) x xs h.0.plain (lines_plain xs h.1) k d l
 
     pub lines_past : (xs : List OpRef) → AreLines c g xs → All (IsPastFirsts c) xs
     lines_past [] h = all_none (IsPastFirsts c)
@@ -108,7 +99,7 @@ module _ (c : ContextData) where
       front = [];
       last = h.0.fits.0;
       are = with_head x [] h.0.fits.0 h.0.fits.1;
-      ends = ends_is x h.0.fits.0 h.0.fits.1 ∙ h.0.ends;
+      ends = ends_is x h.0.fits.0 h.0.plain h.0.fits.1 ∙ h.0.ends;
       before = all_none _;
     }
     lines_end x (y ∷ ys) h =
@@ -118,7 +109,7 @@ module _ (c : ContextData) where
           last = rest.last;
           are = with_head x (y ∷ ys) h.0.fits.0 h.0.fits.1 ∙ ap (λ (os : List DialectOp). h.0.fits.0 ∷ os) rest.are;
           ends = rest.ends;
-          before = λ k d l. all_cons (λ (o : DialectOp). is_terminator o ≡ false) h.0.fits.0 rest.front (ends_is x h.0.fits.0 h.0.fits.1 ∙ h.0.ends) rest.before k d l;
+          before = λ k d l. all_cons (λ (o : DialectOp). is_terminator o ≡ false) h.0.fits.0 rest.front (ends_is x h.0.fits.0 h.0.plain h.0.fits.1 ∙ h.0.ends) rest.before k d l;
         }
 
     ends_one : (d : DialectOp) → EndsInOnly (d ∷ []) → is_terminator d ≡ true
@@ -144,7 +135,7 @@ module _ (c : ContextData) where
         let p = plain_op x (plain 0 x (omega arith)) in
         let P : List DialectOp → Type 0 = All (IsWellFormedOp (type_in c) g) in
         let mine = subst P (with_head x [] p.0 p.1) ops in
-        (record { fits = (p.0, p.1, mine 0 p.0 (omega arith)); ends = sym p.2 ∙ ends_one p.0 (subst EndsInOnly (with_head x [] p.0 p.1) ends); past_firsts = past 0 x (omega arith) }, tt)
+        (record { plain = plain 0 x (omega arith); fits = (p.0, p.1, mine 0 p.0 (omega arith)); ends = sym p.2 ∙ ends_one p.0 (subst EndsInOnly (with_head x [] p.0 p.1) ends); past_firsts = past 0 x (omega arith) }, tt)
     lines_from x (y ∷ ys) plain past ops ends =
         let p = plain_op x (plain 0 x (omega arith)) in
         let q = plain_op y (plain 1 x (omega arith)) in
@@ -152,7 +143,7 @@ module _ (c : ContextData) where
         let mine = subst P (with_head x (y ∷ ys) p.0 p.1) ops in
         let both = with_head x (y ∷ ys) p.0 p.1 ∙ ap (λ (os : List DialectOp). p.0 ∷ os) (with_head y ys q.0 q.1) in
         let split = ends_more p.0 q.0 (filter_map op ys) (subst EndsInOnly both ends) in (
-          record { fits = (p.0, p.1, mine 0 p.0 (omega arith)); ends = sym p.2 ∙ split.0; past_firsts = past 0 x (omega arith) },
+          record { plain = plain 0 x (omega arith); fits = (p.0, p.1, mine 0 p.0 (omega arith)); ends = sym p.2 ∙ split.0; past_firsts = past 0 x (omega arith) },
           lines_from y ys (λ k d l. all_tail (IsPlainAt c) x (y ∷ ys) plain k d l) (λ k d l. all_tail (IsPastFirsts c) x (y ∷ ys) past k d l) (λ k d l. all_tail (IsWellFormedOp (type_in c) g) p.0 (filter_map op (y ∷ ys)) mine k d l) (subst EndsInOnly (sym (with_head y ys q.0 q.1)) split.1),
         )
 

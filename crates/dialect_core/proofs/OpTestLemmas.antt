@@ -1,13 +1,18 @@
 -- What tests of operations find.
-use Rattle.std.proofs.Common.{◌≡◌, ◌<◌, ℕ, Bool, List, Option, Some, None, length, slice_get, ap, sym, subst, ◌∙◌, refl, arith}
-use Rattle.std.specs.Prelude.{IsTrue, ◌↔◌}
+use Rattle.std.proofs.Common.{◌≡◌, ◌<◌, ℕ, Bool, true, false, Result, Ok, Err, List, Option, Some, None, length, slice_get, ap, sym, subst, ◌∙◌, refl, arith}
+use Rattle.std.specs.Prelude.{IsTrue, ◌↔◌, is_ok}
 use Rattle.std.specs.Option.{option_map, option_map_or, option_and_then}
 use Rattle.std.proofs.lemmas.Option.{none-some, same_Some}
-use Rattle.kinds.specs.Types.{result_of}
+use Rattle.kinds.specs.Types.{result_of, same_tree}
+use Rattle.kinds.specs.Held.{IsFirstClass}
+use Rattle.kinds.proofs.TypeLaws.{tree_self, tree_told}
 use Rattle.dialect_types.specs.declared.types.TypeHandle.{TypeHandle}
 use Rattle.dialect_types.specs.declared.types.TypeKind.{TypeKind}
 use Rattle.dialect_types.specs.declared.types.TypeKind.TheVariants as T
-use Rattle.dialect_types.specs.Trees.{VoidType, type_tree, type_trees, HasPartsBelow}
+use Rattle.dialect_types.specs.Trees.{TypeTree, VoidType, type_at, type_tree, type_trees, HasPartsBelow}
+use Rattle.const_attrs.specs.declared.attr_err.AttrErr.{AttrErr}
+use Rattle.const_attrs.specs.Trees.{AttrTree, type_of}
+use Rattle.const_attrs.specs.Verified.{fault_of, has_type}
 use Rattle.dialect_core.specs.declared.numbers.OpRef.{OpRef}
 use Rattle.dialect_core.specs.declared.ops.Value.{Value}
 use Rattle.dialect_core.specs.declared.ops.Successor.{Successor}
@@ -17,7 +22,8 @@ use Rattle.dialect_core.specs.declared.ops.OpData.{OpData}
 use Rattle.dialect_core.specs.ContextData.{ContextData, symbol_at}
 use Rattle.dialect_core.specs.Data.{Kind, DialectOp, Func, kind_of, op_of, op_at, IsTyped, HasKindTypesBelow, type_in}
 use Rattle.dialect_core.specs.WellFormed.{IsOfKind, IsWellFormedOp}
-use Rattle.dialect_core.specs.Checking.{IsKindAt, IsOpAt, func_at, tree_at}
+use Rattle.dialect_core.specs.Checking.{IsConstantOf, IsKindAt, IsOpAt, func_at, tree_at}
+use Rattle.dialect_core.proofs.TestLemmas.{no_true}
 
 -- ---- kinds
 
@@ -66,6 +72,28 @@ module _ (c : ContextData) (g : Func) (o : OpRef) where
           let S : List Successor → Type 0 = λ q. IsTrue t ↔ IsKindAt c g x.kind x.operands x.result q in
           let m : IsTrue t ↔ IsKindAt c g x.kind x.operands x.result x.successors = subst S (sym (same_Some x.successors edges s)) (subst R (sym (same_Some x.result own r)) (subst P (sym (same_Some x.operands operands p)) (subst K (sym (same_Some x.kind kind k)) h))) in
           (λ yes. to_op x at (m.0 yes), λ w. m.1 (from_op x at w))
+
+-- ---- constants
+
+-- one of the type of its operation
+pub constant_typed : (ts : List TypeTree) (a : AttrTree) (own : Option TypeHandle) (ty : TypeHandle) (t : Bool) → own ≡ Some ty → true ≡ has_type a (type_at ts ty) → (IsTrue t ↔ IsFirstClass (type_at ts ty)) → IsTrue t ↔ IsConstantOf (option_map (type_at ts) own) a
+constant_typed ts a own ty t is has first =
+    let same : type_of a ≡ type_at ts ty = tree_told (type_of a) (type_at ts ty) (sym has) in
+    (λ yes. (subst IsFirstClass (sym same) (first.0 yes), ap (option_map (type_at ts)) is ∙ ap Some (sym same)), λ w. first.1 (subst IsFirstClass same w.0))
+
+-- and one of another type
+pub constant_other : (ts : List TypeTree) (a : AttrTree) (own : Option TypeHandle) (ty : TypeHandle) (t : Bool) → own ≡ Some ty → t ≡ has_type a (type_at ts ty) → t ≡ false → IsTrue t ↔ IsConstantOf (option_map (type_at ts) own) a
+constant_other ts a own ty t is has differs = (
+  λ yes. no_true (sym differs ∙ yes),
+  λ w.
+      let same : type_at ts ty ≡ type_of a = same_Some (type_at ts ty) (type_of a) (sym (ap (option_map (type_at ts)) is) ∙ w.1) in
+      no_true (sym differs ∙ has ∙ ap (same_tree (type_of a)) same ∙ tree_self (type_of a)),
+)
+
+-- a constant without a fault keeps the rules
+pub without_fault : (r : Result (Unit {0}) AttrErr) (b : Option AttrErr) (t : Bool) → t ≡ is_ok r → fault_of r ≡ b → IsTrue t ↔ ((true ≡ true) × (b ≡ None))
+without_fault (Ok u) b t is fault = (λ yes. (refl, sym fault), λ w. is)
+without_fault (Err e) b t is fault = (λ yes. no_true (sym is ∙ yes), λ w. absurd (none-some e (sym (fault ∙ w.1))))
 
 -- ---- what a function returns
 

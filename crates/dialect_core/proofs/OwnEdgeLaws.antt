@@ -33,7 +33,7 @@ op_edges ts o x d h = by (kind_of ts x.kind) h
 
 module _ (c : ContextData) (regions : AreRegions (region_at c.ops) (holder_at c.blocks)) where
   -- a block of a region is there
-  region_within : (o k : ℕ) (b : BlockRef) → slice_get (region_at c.ops o) k ≡ Some b → b.0 < length c.blocks
+  pub region_within : (o k : ℕ) (b : BlockRef) → slice_get (region_at c.ops o) k ≡ Some b → b.0 < length c.blocks
   region_within o k b at = by (slice_get c.blocks b.0) refl (regions.ours o k b at)
     where
       by : (x : Option BlockData) → slice_get c.blocks b.0 ≡ x → option_map (λ (x : BlockData). x.holder.0) x ≡ Some o → b.0 < length c.blocks

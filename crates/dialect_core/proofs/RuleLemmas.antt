@@ -17,13 +17,12 @@ use Rattle.kinds.proofs.TypeLaws.{tree_self, tree_told}
 use Rattle.kinds.proofs.FittingLaws.{fits_kept}
 use Rattle.dialect_types.specs.declared.types.TypeHandle.{TypeHandle}
 use Rattle.dialect_types.specs.Trees.{TypeTree, IsDistinctAsTrees}
-use Rattle.const_attrs.specs.Trees.{AttrTree, IntegerAttr, FilledAttr, BytesAttr, AggregateAttr, SplatAttr}
 use Rattle.dialect_core.specs.declared.ops.Value.{Value}
 use Rattle.dialect_core.specs.declared.ops.Successor.{Successor}
 use Rattle.dialect_core.specs.ContextData.{ContextData}
 use Rattle.dialect_core.specs.Data.{Kind, ConstantOp, FilledOp, RowOp, Func, type_in}
 use Rattle.dialect_core.specs.Checking.{tree_at}
-use Rattle.dialect_core.specs.Rules.{IsEdge, IsFirstClassBy, IsIntegerOf, IsOfKind, IsTypedBy, Typing, row_fits, type_nth}
+use Rattle.dialect_core.specs.Rules.{IsEdge, IsFirstClassBy, IsOfKind, IsTypedBy, Typing, row_fits, type_nth}
 use Rattle.dialect_core.proofs.LineLemmas.{all_at}
 
 bool_by : (a b : Bool) → (a ≡ true → b ≡ true) → (b ≡ true → a ≡ true) → a ≡ b
@@ -90,16 +89,6 @@ module _ (c : ContextData) (distinct : IsDistinctAsTrees c.types) where
       let z = named_some d ∙ is_d in
       sym e ∙ rw (u, x, y, z) refl
 
--- ---- constants
-
--- an operation that holds a constant holds an integer of its type
-pub constant_integer : (T : Typing) (g : Func) (vs : List Value) (own : Option TypeTree) (ss : List Successor) (a : AttrTree) → IsOfKind T g vs own ss (ConstantOp a) → (type : TypeTree) × (value : ℕ) × (a ≡ IntegerAttr type value) × IsIntegerOf type value
-constant_integer T g vs own ss (IntegerAttr t v) h = (t, v, refl, h.integer)
-constant_integer T g vs own ss (FilledAttr fill t) h = absurd h
-constant_integer T g vs own ss (BytesAttr bytes) h = absurd h
-constant_integer T g vs own ss (AggregateAttr elements t) h = absurd h
-constant_integer T g vs own ss (SplatAttr element t) h = absurd h
-
 -- ---- what an operation names
 
 none_hold : {X : Type 0} (P : X → Type 0) (xs : List X) → xs ≡ [] → All P xs
@@ -108,20 +97,12 @@ none_hold P xs e = let All_P : List _ → Type 0 = All P in subst All_P (sym e) 
 module _ (T : Typing) (g : Func) (vs : List Value) (own : Option TypeTree) (ss : List Successor) where
   -- each operand has a type
   pub kind_operands : (k : Kind) → IsOfKind T g vs own ss k → All (IsTypedBy T) vs
-  kind_operands (ConstantOp (IntegerAttr t v)) h = none_hold (IsTypedBy T) vs h.bare
-  kind_operands (ConstantOp (FilledAttr fill type)) h = absurd h
-  kind_operands (ConstantOp (BytesAttr bytes)) h = absurd h
-  kind_operands (ConstantOp (AggregateAttr elements type)) h = absurd h
-  kind_operands (ConstantOp (SplatAttr element type)) h = absurd h
+  kind_operands (ConstantOp constant) h = none_hold (IsTypedBy T) vs h.bare
   kind_operands (FilledOp fill) h = none_hold (IsTypedBy T) vs h.bare
   kind_operands (RowOp op) h = all_from (IsTypedBy T) vs (λ k v at. let w = all_at (IsFirstClassBy T) vs h.values k v at in (w.0, w.1))
 
   -- each edge keeps the rules of edges
   pub kind_edges : (k : Kind) → IsOfKind T g vs own ss k → All (IsEdge T g) ss
-  kind_edges (ConstantOp (IntegerAttr t v)) h = none_hold (IsEdge T g) ss h.ends_here
-  kind_edges (ConstantOp (FilledAttr fill type)) h = absurd h
-  kind_edges (ConstantOp (BytesAttr bytes)) h = absurd h
-  kind_edges (ConstantOp (AggregateAttr elements type)) h = absurd h
-  kind_edges (ConstantOp (SplatAttr element type)) h = absurd h
+  kind_edges (ConstantOp constant) h = none_hold (IsEdge T g) ss h.ends_here
   kind_edges (FilledOp fill) h = none_hold (IsEdge T g) ss h.ends_here
   kind_edges (RowOp op) h = λ k d l. h.leads.1 k d l

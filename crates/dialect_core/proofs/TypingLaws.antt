@@ -12,8 +12,7 @@ use Rattle.kinds.specs.declared.rules.Takes.TheVariants as O
 use Rattle.kinds.specs.Types.{result_of}
 use Rattle.kinds.specs.Rules.{target_count}
 use Rattle.kinds.specs.Table.{rule_of}
-use Rattle.dialect_types.specs.Trees.{TypeTree, type_at, type_trees}
-use Rattle.const_attrs.specs.Trees.{IntegerAttr, FilledAttr, BytesAttr, AggregateAttr, SplatAttr}
+use Rattle.dialect_types.specs.Trees.{TypeTree, structs_of, type_at, type_trees}
 use Rattle.dialect_core.specs.declared.numbers.OpRef.{OpRef}
 use Rattle.dialect_core.specs.declared.numbers.BlockRef.{BlockRef}
 use Rattle.dialect_core.specs.declared.ops.Value.{Value}
@@ -25,7 +24,7 @@ use Rattle.dialect_core.specs.declared.ops.BlockData.{BlockData}
 use Rattle.dialect_core.specs.Lists.{Stands, list_at}
 use Rattle.dialect_core.specs.ContextData.{ContextData}
 use Rattle.dialect_core.specs.Data.{Kind, ConstantOp, FilledOp, RowOp, DialectOp, DialectBlock, Func, op_at, block_of, block_in, func_of, func_in, data_of, held, ops_in, value_type, type_in}
-use Rattle.dialect_core.specs.Form.{FitsTarget, HasOwnValues, IsFormFunc, IsValueOf, LeadsToOwn, edges_of, uses_of}
+use Rattle.dialect_core.specs.Form.{FitsTarget, HasOwnValues, IsFormFunc, IsRuled, IsValueOf, LeadsToOwn, edges_of, uses_of}
 use Rattle.dialect_core.specs.WellFormed.{IsOpenForm, IsWellFormedBlock, IsWellFormedFunc, IsWellFormedOp}
 use Rattle.dialect_core.specs.Rules.{AreEdges, IsEdge, IsFirstClassBy, IsOfKind, IsReturning, IsRow, IsTypedBy, Typing, type_nth}
 use Rattle.dialect_core.proofs.ChainLemmas.{same_op}
@@ -51,7 +50,7 @@ func_blocks c f g h = by (slice_get c.ops f.0) h
     by (Some x) e = (x.blocks, with_symbol x x.symbol e)
 
 -- the operations of a block are those of numbers of the context
-block_ops : (c : ContextData) (b : BlockRef) (d : DialectBlock) → block_in (type_trees c.types) c b ≡ Some d → d.ops ≡ filter_map (op_at (type_trees c.types) c.ops) (list_at c.lists b)
+pub block_ops : (c : ContextData) (b : BlockRef) (d : DialectBlock) → block_in (type_trees c.types) c b ≡ Some d → d.ops ≡ filter_map (op_at (type_trees c.types) c.ops) (list_at c.lists b)
 block_ops c b d h = by (slice_get c.blocks b.0) h
   where
     by : (x : Option BlockData) → option_map (block_of (type_trees c.types) c b) x ≡ Some d → d.ops ≡ filter_map (op_at (type_trees c.types) c.ops) (list_at c.lists b)
@@ -157,11 +156,7 @@ module _ (T U : Typing) (g : Func) (operands : List Value) (edges : List Success
       }
 
   kinds : (own : Option TypeTree) (k : Kind) → IsOfKind T g operands own edges k → IsOfKind U g operands own edges k
-  kinds own (ConstantOp (IntegerAttr t v)) h = h
-  kinds own (ConstantOp (FilledAttr fill type)) h = absurd h
-  kinds own (ConstantOp (BytesAttr bytes)) h = absurd h
-  kinds own (ConstantOp (AggregateAttr elements type)) h = absurd h
-  kinds own (ConstantOp (SplatAttr element type)) h = absurd h
+  kinds own (ConstantOp constant) h = h
   kinds own (FilledOp fill) h = h
   kinds own (RowOp op) h = row op own h
 
@@ -209,16 +204,16 @@ module _ (c : ContextData) (f : OpRef) (g : Func) (is : func_in (type_trees c.ty
       mine.1 ∙ sym (own_type c f g is v mine.0 mine.1) ∙ e)
       (λ j b s place t at stands e. own_type c f g is (Argument s.block place) t e)
 
-  -- a function of the form whose edges lead to its own blocks is of the open one
-  pub open_of : LeadsToOwn g → IsFormFunc g → IsOpenForm c g
-  open_of own h = (open_well own (form_is_well_formed g h), form_is_narrow g h)
+  -- a function of the form whose edges lead to its own blocks, and whose constants keep the rules, is of the open one
+  pub open_of : LeadsToOwn g → IsFormFunc g → IsRuled (structs_of c.types) g → IsOpenForm c g
+  open_of own h ruled = (open_well own (form_is_well_formed g h), form_is_narrow g h, ruled)
 
   -- and one of the open form whose values are its own is of the form
   pub own_form : HasOwnValues g → IsOpenForm c g → IsFormFunc g
   own_form own h = form_of g (own_well own h.0) h.1
 
 -- the functions of a module
-pub module_open : (c : ContextData) (m : ℕ) → All LeadsToOwn (data_of c m).functions → All IsFormFunc (data_of c m).functions → All (IsOpenForm c) (data_of c m).functions
-module_open c m own forms = all_from (IsOpenForm c) (data_of c m).functions (λ k g at.
+pub module_open : (c : ContextData) (m : ℕ) → All LeadsToOwn (data_of c m).functions → All IsFormFunc (data_of c m).functions → All (IsRuled (structs_of c.types)) (data_of c m).functions → All (IsOpenForm c) (data_of c m).functions
+module_open c m own forms ruled = all_from (IsOpenForm c) (data_of c m).functions (λ k g at.
     let w = made_of (func_in (type_trees c.types) c) (held c m) k g at in
-    open_of c w.0 g w.2 (all_at LeadsToOwn (data_of c m).functions own k g at) (all_at IsFormFunc (data_of c m).functions forms k g at))
+    open_of c w.0 g w.2 (all_at LeadsToOwn (data_of c m).functions own k g at) (all_at IsFormFunc (data_of c m).functions forms k g at) (all_at (IsRuled (structs_of c.types)) (data_of c m).functions ruled k g at))

@@ -4,7 +4,7 @@ use Rattle.std.specs.List.{filter_map}
 use Rattle.std.specs.Option.{option_map, option_map_or, option_and_then}
 use Rattle.dialect_types.specs.declared.types.TypeHandle.{TypeHandle}
 use Rattle.dialect_types.specs.Trees.{TypeTree, VoidType, type_at, type_trees}
-use Rattle.const_attrs.specs.Trees.{AttrTree, IntegerAttr, FilledAttr, BytesAttr, AggregateAttr, SplatAttr}
+use Rattle.const_attrs.specs.Trees.{AttrTree, type_of}
 use Rattle.dialect_core.specs.declared.numbers.OpRef.{OpRef}
 use Rattle.dialect_core.specs.declared.numbers.BlockRef.{BlockRef}
 use Rattle.dialect_core.specs.declared.linkage.LinkageAttr.TheVariants as L
@@ -18,8 +18,7 @@ use Rattle.dialect_core.specs.declared.ops.BlockData.{BlockData}
 use Rattle.dialect_core.specs.Lists.{list_at}
 use Rattle.dialect_core.specs.ContextData.{ContextData, kind_at, region_at, symbol_at, llvm_name_at}
 use Rattle.dialect_core.specs.Data.{Kind, DialectOp, DialectBlock, Func, llvm_name_of, kind_of, op_at, block_in, name_at, symbol_name_at, held, type_in}
-use Rattle.dialect_core.specs.Rules.{IsIntegerOf}
-use Rattle.kinds.specs.Held.{IsSignature}
+use Rattle.kinds.specs.Held.{IsFirstClass, IsSignature}
 use Rattle.kinds.specs.Names.{is_own_name}
 use Rattle.kinds.specs.Rules.{ends}
 use Rattle.kinds.specs.Table.{rule_of}
@@ -62,13 +61,9 @@ pub record Passes (types : Typing) (wanted : Option TypeTree) (v : Value) : Type
 abbrev pub PassesEach : Typing → List TypeTree → List Value → Type 0
 PassesEach types wanted vs = (place : ℕ) (v : Value) → slice_get vs place ≡ Some v → Passes types (slice_get wanted place) v
 
--- a constant of that type, an integer: an operation holds no other constant yet
+-- a constant of that type, which is one of values
 abbrev pub IsConstantOf : Option TypeTree → AttrTree → Type 0
-IsConstantOf own (IntegerAttr type value) = IsIntegerOf type value × (own ≡ Some type)
-IsConstantOf own (FilledAttr fill type) = ⊥
-IsConstantOf own (BytesAttr bytes) = ⊥
-IsConstantOf own (AggregateAttr elements type) = ⊥
-IsConstantOf own (SplatAttr element type) = ⊥
+IsConstantOf own constant = IsFirstClass (type_of constant) × (own ≡ Some (type_of constant))
 
 -- the kind is one of a function's block, and the operation is as its kind is
 abbrev pub IsKindAt : ContextData → Func → OpKind → List Value → Option TypeHandle → List Successor → Type 0
@@ -89,9 +84,10 @@ ends_kind (K.Row op) = ends (rule_of op).leads
 abbrev pub ends_at : ContextData → OpRef → Bool
 ends_at c o = option_map_or (λ (x : OpData). ends_kind x.kind) (slice_get c.ops o.0) false
 
--- an operation with the one after it in its block: it is a terminator where there is none, and no edge of it goes to a
--- first block
+-- an operation with the one after it in its block: its constant keeps the rules, it is a terminator where there is none
+-- after it, and no edge of it goes to a first block
 pub record IsLine (c : ContextData) (g : Func) (o : OpRef) (next : Option OpRef) : Type 0 where
+  pub plain : IsPlainAt c o
   pub fits : IsOpAt c g o
   pub ends : ends_at c o ≡ is_none next
   pub past_firsts : IsPastFirsts c o

@@ -109,6 +109,10 @@ is_plain (Row o) = true
 abbrev pub kind_at : List OpData → OpRef → Option OpKind
 kind_at ops o = option_map (λ (x : OpData). x.kind) (slice_get ops o.0)
 
+-- an operation that is neither a module nor a function
+abbrev pub IsPlainKindAt : List OpData → OpRef → Type 0
+IsPlainKindAt ops o = (k : OpKind) × (kind_at ops o ≡ Some k) × (is_plain k ≡ true)
+
 -- the type and linkage of a function
 abbrev pub symbol_at : List OpData → OpRef → Option Symbol
 symbol_at ops o = option_and_then (λ (x : OpData). x.symbol) (slice_get ops o.0)

@@ -1,9 +1,13 @@
 -- Functions of the form that is translated today: a body of constants and rows of the table, over the types that are held.
 -- Where its constants stand is a question of its own.
-use Rattle.std.specs.Prelude.{◌≡◌, ◌<◌, ◌≤◌, ℕ, suc, Bool, true, false, not, List, [], ◌∷◌, ◌++◌, length, take, filter, slice_get, Some, All, IfSome}
+use Rattle.std.specs.Prelude.{◌≡◌, ◌<◌, ◌≤◌, ◌^◌, ℕ, suc, Bool, true, false, not, List, [], ◌∷◌, ◌++◌, length, take, filter, slice_get, Some, None, All, IfSome}
 use Rattle.std.specs.List.{flat_map}
 use Rattle.std.specs.Option.{option_map_or}
-use Rattle.dialect_types.specs.Trees.{TypeTree, FunctionType, TypeTrees}
+use Rattle.dialect_types.specs.Trees.{NamedStruct, TypeTree, IntType, VectorType, FunctionType, TypeTrees}
+use Rattle.const_attrs.specs.Trees.{AttrTree, IntegerAttr, FilledAttr, BytesAttr, AggregateAttr, SplatAttr, AttrTrees, NoAttrs, ThenAttr}
+use Rattle.const_attrs.specs.Verified.{broken}
+use Rattle.kinds.specs.declared.fill.Fill.{Fill}
+use Rattle.kinds.specs.declared.types.VectorTypeKind.TheVariants.{Fixed}
 use Rattle.dialect_core.specs.declared.linkage.LinkageAttr.TheVariants.{ExternalLinkage}
 use Rattle.dialect_core.specs.declared.ops.Value.{Value}
 use Rattle.dialect_core.specs.declared.ops.Value.TheVariants.{Result, Argument}
@@ -12,7 +16,7 @@ use Rattle.kinds.specs.Rules.{ends}
 use Rattle.kinds.specs.Table.{rule_of}
 use Rattle.kinds.specs.Fill.{is_own_fill}
 use Rattle.kinds.specs.Types.{shape, types_list}
-use Rattle.kinds.specs.Held.{width_in, IsShallow, IsHeld, IsHeldResult}
+use Rattle.kinds.specs.Held.{width_in, IsShallow, IsShortWidth, IsHeld, IsHeldResult}
 use Rattle.kinds.specs.Names.{is_good_name, is_own_name}
 use Rattle.dialect_core.specs.Rules.{IsOfKind}
 use Rattle.dialect_core.specs.Data.{Kind, ConstantOp, FilledOp, RowOp, DialectOp, DialectBlock, Func, llvm_name_of, ops_in, value_type}
@@ -28,21 +32,60 @@ pub record IsOperand (g : Func) (type : TypeTree) (v : Value) : Type 0 where
 abbrev pub IsHeldValue : Func → Value → Type 0
 IsHeldValue g v = (type : TypeTree) × IsOperand g type v
 
--- The zero of an integer type is an integer constant of LLVM, of which those of at most 64 bits are translated; of other
--- operations nothing is asked.
+-- an integer of 1 to 64 bits, since an integer attribute holds no more, which the value fits
+abbrev pub IsIntegerOf : TypeTree → ℕ → Type 0
+IsIntegerOf type value = (w : ℕ) × (type ≡ IntType w) × IsShortWidth w × (value < 2 ^ w)
+
+-- zero, undef or poison of a type; the zero of an integer type is an integer constant of LLVM, of which those of at most 64 bits are
+-- translated
+abbrev pub IsShortFill : Fill → TypeTree → Type 0
+IsShortFill fill type = is_own_fill fill (shape type) ≡ false → IsShortWidth (width_in type)
+
+-- a vector of a known length
+abbrev pub is_fixed : TypeTree → Bool
+is_fixed (VectorType Fixed count type) = true
+is_fixed _ = false
+
+abbrev mutual
+  -- A constant that is translated: each integer in it, the zero of an integer type too, has 1 to 64 bits, which it fits, and no vector of
+  -- equal elements in it is scalable.
+  pub IsShortAttr : AttrTree → Type 0
+  IsShortAttr (IntegerAttr type value) = IsIntegerOf type value
+  IsShortAttr (FilledAttr fill type) = IsShortFill fill type
+  IsShortAttr (BytesAttr bytes) = All (λ (b : ℕ). b < 2 ^ 8) bytes
+  IsShortAttr (AggregateAttr elements type) = AreShortAttrs elements
+  IsShortAttr (SplatAttr element type) = (is_fixed type ≡ true) × IsShortAttr element
+
+  pub AreShortAttrs : AttrTrees → Type 0
+  AreShortAttrs NoAttrs = Unit {0}
+  AreShortAttrs (ThenAttr c cs) = IsShortAttr c × AreShortAttrs cs
+
+-- A constant that is translated: the type of zero, undef or poison is that of the result. Of what is no constant nothing is asked.
 abbrev pub IsShortKind : Kind → (result : TypeTree) → Type 0
-IsShortKind (ConstantOp value) type = Unit {0}
-IsShortKind (FilledOp fill) type = is_own_fill fill (shape type) ≡ false → width_in type ≤ 64
+IsShortKind (ConstantOp value) type = IsShortAttr value
+IsShortKind (FilledOp fill) type = IsShortFill fill type
 IsShortKind (RowOp op) type = Unit {0}
 
 -- an operation of the function g: it keeps the rules of the dialect by the types that g gives its values, those types are
--- translated, and the zero of an integer type has at most 64 bits
+-- translated, and so is a constant that it holds
 pub record IsFormOp (g : Func) (o : DialectOp) : Type 0 where
   pub kind : IsOfKind (value_type g) g o.operands o.result o.successors o.kind
   pub operands : All (IsHeldValue g) o.operands
   pub passed : All (λ (s : Successor). All (IsHeldValue g) s.args) o.successors
   pub result : IfSome o.result IsHeld
   pub short : IfSome o.result (IsShortKind o.kind)
+
+-- ---- the rules of constants
+
+-- the constant that an operation holds keeps the rules of constants, where these are the structs with a name
+abbrev pub IsRuledKind : List NamedStruct → Kind → Type 0
+IsRuledKind structs (ConstantOp value) = broken structs value ≡ None
+IsRuledKind structs (FilledOp fill) = Unit {0}
+IsRuledKind structs (RowOp op) = Unit {0}
+
+-- so does each that the function holds
+abbrev pub IsRuled : List NamedStruct → Func → Type 0
+IsRuled structs g = All (λ (o : DialectOp). IsRuledKind structs o.kind) (ops_in g)
 
 -- ---- functions
 

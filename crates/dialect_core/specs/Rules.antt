@@ -1,26 +1,20 @@
 -- The rules of the dialect for one operation: what it asks of the types of its operands, of its result and of its edges.
-use Rattle.std.specs.Prelude.{◌≡◌, ◌<◌, ◌^◌, ℕ, Bool, true, List, [], length, slice_get, Option, Some, All, IfSome}
+use Rattle.std.specs.Prelude.{◌≡◌, ℕ, Bool, true, List, [], length, slice_get, Option, Some, All, IfSome}
 use Rattle.std.specs.Option.{option_and_then}
 use Rattle.kinds.specs.declared.op.Op.{Op}
 use Rattle.kinds.specs.declared.rules.Takes.{Takes}
 use Rattle.kinds.specs.declared.rules.Takes.TheVariants as O
-use Rattle.kinds.specs.Types.{TypeTree, IntType, shape, same_tree, result_of}
-use Rattle.kinds.specs.Held.{is_void, IsFirstClass, IsShortWidth}
+use Rattle.kinds.specs.Types.{TypeTree, shape, same_tree, result_of}
+use Rattle.kinds.specs.Held.{is_void, IsFirstClass}
 use Rattle.kinds.specs.Rules.{operand_count, target_count}
 use Rattle.kinds.specs.Table.{rule_of}
 use Rattle.kinds.specs.Fitting.{fits}
 use Rattle.kinds.specs.Typing.{given, written_for}
-use Rattle.const_attrs.specs.Trees.{IntegerAttr, FilledAttr, BytesAttr, AggregateAttr, SplatAttr}
+use Rattle.const_attrs.specs.Trees.{AttrTree, type_of}
 use Rattle.dialect_core.specs.declared.ops.Value.{Value}
 use Rattle.dialect_core.specs.declared.ops.Value.TheVariants.{Argument}
 use Rattle.dialect_core.specs.declared.ops.Successor.{Successor}
 use Rattle.dialect_core.specs.Data.{Kind, ConstantOp, FilledOp, RowOp, DialectBlock, Func}
-
--- ---- constants
-
--- an integer type of 1 to 64 bits, since an integer attribute holds no more, which the value fits
-abbrev pub IsIntegerOf : TypeTree → ℕ → Type 0
-IsIntegerOf type value = (w : ℕ) × (type ≡ IntType w) × IsShortWidth w × (value < 2 ^ w)
 
 -- ---- values
 
@@ -88,10 +82,10 @@ pub record IsRow (types : Typing) (g : Func) (op : Op) (operands : List Value) (
   pub value : IfSome own IsFirstClass
   pub leads : AreEdges types g (target_count (rule_of op).leads) edges
 
--- an integer of its type
-pub record IsConstant (type : TypeTree) (value : ℕ) (operands : List Value) (own : Option TypeTree) (edges : List Successor) : Type 0 where
-  pub integer : IsIntegerOf type value
-  pub result : own ≡ Some type
+-- a constant of a type of values
+pub record IsConstant (constant : AttrTree) (operands : List Value) (own : Option TypeTree) (edges : List Successor) : Type 0 where
+  pub value : IsFirstClass (type_of constant)
+  pub result : own ≡ Some (type_of constant)
   pub bare : operands ≡ []
   pub ends_here : edges ≡ []
 
@@ -105,11 +99,6 @@ pub record IsFilled (operands : List Value) (own : Option TypeTree) (edges : Lis
 
 -- the operands, the result and the edges of an operation
 abbrev pub IsOfKind : Typing → Func → List Value → Option TypeTree → List Successor → Kind → Type 0
-IsOfKind types g operands own edges (ConstantOp (IntegerAttr type value)) = IsConstant type value operands own edges
--- an operation holds no other constant yet
-IsOfKind types g operands own edges (ConstantOp (FilledAttr fill type)) = ⊥
-IsOfKind types g operands own edges (ConstantOp (BytesAttr bytes)) = ⊥
-IsOfKind types g operands own edges (ConstantOp (AggregateAttr elements type)) = ⊥
-IsOfKind types g operands own edges (ConstantOp (SplatAttr element type)) = ⊥
+IsOfKind types g operands own edges (ConstantOp value) = IsConstant value operands own edges
 IsOfKind types g operands own edges (FilledOp fill) = IsFilled operands own edges
 IsOfKind types g operands own edges (RowOp op) = IsRow types g op operands own edges

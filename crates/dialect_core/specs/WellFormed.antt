@@ -1,13 +1,16 @@
 -- Well-formed modules: the rules of the dialect for the kinds of operations that there are, and what the open form
 -- (`IsOpenForm`) asks besides.
-use Rattle.std.specs.Prelude.{◌≡◌, ◌<◌, ◌≤◌, ◌^◌, ℕ, Bool, true, false, List, [], ◌∷◌, length, slice_get, Some, All, IfSome}
-use Rattle.dialect_types.specs.Trees.{type_at, type_trees}
+use Rattle.std.specs.Prelude.{◌≡◌, ◌<◌, ◌≤◌, ◌^◌, ℕ, Bool, true, false, List, [], ◌∷◌, length, slice_get, Some, None, All, IfSome}
+use Rattle.dialect_types.specs.Trees.{type_at, type_trees, structs_of}
 use Rattle.dialect_types.specs.declared.types.TypeHandle.{TypeHandle}
+use Rattle.const_attrs.specs.Trees.{attr_tree, attr_data}
+use Rattle.const_attrs.specs.Verified.{broken}
 use Rattle.dialect_core.specs.declared.numbers.OpRef.{OpRef}
 use Rattle.dialect_core.specs.declared.numbers.BlockRef.{BlockRef}
 use Rattle.dialect_core.specs.declared.linkage.LinkageAttr.{LinkageAttr}
 use Rattle.dialect_core.specs.declared.linkage.LinkageAttr.TheVariants as L
 use Rattle.dialect_core.specs.declared.ops.Successor.{Successor}
+use Rattle.dialect_core.specs.declared.ops.OpKind.{OpKind}
 use Rattle.dialect_core.specs.declared.ops.OpKind.TheVariants as K
 use Rattle.dialect_core.specs.declared.ops.OpData.{OpData}
 use Rattle.dialect_core.specs.declared.ops.BlockData.{BlockData}
@@ -19,7 +22,7 @@ use Rattle.kinds.specs.Types.{params_of}
 use Rattle.kinds.specs.Held.{IsFirstClass, IsHeld, IsSignature, IsHeldSignature}
 use Rattle.kinds.specs.Names.{is_good_name, is_own_name}
 use Rattle.dialect_core.specs.Data.{DialectOp, DialectBlock, Func, llvm_name_of, held, data_of, ops_in, type_in}
-use Rattle.dialect_core.specs.Form.{EndsInOnly, IsShortKind}
+use Rattle.dialect_core.specs.Form.{EndsInOnly, IsShortKind, IsRuled}
 
 -- ---- operations
 
@@ -134,9 +137,17 @@ HasFirstClassArgs c b = (x : BlockData) → slice_get c.blocks b.0 ≡ Some x �
 abbrev pub HasNamesApart : (Func → List ℕ) → List Func → Type 0
 HasNamesApart name fs = (i j : ℕ) (f g : Func) → slice_get fs i ≡ Some f → slice_get fs j ≡ Some g → name f ≡ name g → i ≡ j
 
--- an operation that is neither a module nor a function
+-- the constant that an operation holds, where it holds one, keeps the rules of constants
+abbrev pub KeepsRules : ContextData → OpKind → Type 0
+KeepsRules c K.Module = Unit {0}
+KeepsRules c K.Func = Unit {0}
+KeepsRules c (K.Constant value) = broken (structs_of c.types) (attr_tree (type_trees c.types) (attr_data value)) ≡ None
+KeepsRules c (K.Filled fill) = Unit {0}
+KeepsRules c (K.Row op) = Unit {0}
+
+-- an operation that is neither a module nor a function, and whose constant keeps the rules
 abbrev pub IsPlainAt : ContextData → OpRef → Type 0
-IsPlainAt c o = (k : _) × (kind_at c.ops o ≡ Some k) × (is_plain k ≡ true)
+IsPlainAt c o = (k : OpKind) × (kind_at c.ops o ≡ Some k) × (is_plain k ≡ true) × KeepsRules c k
 
 -- the block is the first of the region of an operation of the context
 abbrev pub IsFirst : ContextData → BlockRef → Type 0
@@ -166,8 +177,7 @@ pub record IsWellFormed (c : ContextData) (m : ℕ) : Type 0 where
 
 -- ---- what the open form asks besides
 
--- an operation of the form: the type of its result, where it has one, is translated, and the zero of an integer type has at
--- most 64 bits
+-- an operation of the form: the type of its result, where it has one, is translated, and so is a constant that it holds
 abbrev pub IsNarrowOp : DialectOp → Type 0
 IsNarrowOp o = IfSome o.result IsHeld × IfSome o.result (IsShortKind o.kind)
 
@@ -188,6 +198,7 @@ pub record IsNarrowFunc (g : Func) : Type 0 where
 abbrev pub IsNarrow : ContextData → ℕ → Type 0
 IsNarrow c m = All IsNarrowFunc (data_of c m).functions
 
--- a function of the context of the form, whose values may be those of other functions: `IsFormFunc` where they are its own
+-- a function of the context of the form, whose values may be those of other functions, and whose constants keep the rules: `IsFormFunc`
+-- where the values are its own
 abbrev pub IsOpenForm : ContextData → Func → Type 0
-IsOpenForm c g = IsWellFormedFunc (type_in c) g × IsNarrowFunc g
+IsOpenForm c g = IsWellFormedFunc (type_in c) g × IsNarrowFunc g × IsRuled (structs_of c.types) g

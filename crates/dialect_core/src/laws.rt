@@ -6,7 +6,7 @@ ghost use Rattle.dialect_core.specs.declared.numbers.OpRef.{OpRef};
 ghost use Rattle.dialect_core.specs.declared.ops.OpKind.TheVariants as kinds;
 ghost use Rattle.dialect_core.specs.ContextData.{ContextData, AreRegions, IsSymbol, holder_at, kind_at, region_at};
 ghost use Rattle.dialect_core.specs.Data.{Func, llvm_name_of, data_of, func_in, held, type_in, value_type, IsTyped};
-ghost use Rattle.dialect_core.specs.Form.{HasOwnValues, IsFormFunc, LeadsToOwn};
+ghost use Rattle.dialect_core.specs.Form.{HasOwnValues, IsFormFunc, IsRuled, LeadsToOwn};
 ghost use Rattle.dialect_core.specs.Nested.{AreNested};
 ghost use Rattle.dialect_core.specs.WellFormed.{HasFirstClassArgs, HasNamesApart, IsFew, IsFewFunc, IsNarrowFunc, IsOpenForm, IsPlainAt, IsWellFormed, IsWellFormedFunc};
 
@@ -25,10 +25,10 @@ pub fn own_law()
     ensures { (c : ContextData) (f : OpRef) (g : Func) → func_in (type_trees c.types) c f ≡ Some g → HasOwnValues g → IsOpenForm c g → IsFormFunc g }
 {}
 
-/// A function of the context that is of the form, and whose edges lead to blocks of its own, is well-formed there, and
-/// narrow.
+/// A function of the context that is of the form, whose edges lead to blocks of its own, and whose constants keep the rules
+/// of constants, is well-formed there, and narrow.
 pub fn open_law()
-    ensures { (c : ContextData) (f : OpRef) (g : Func) → func_in (type_trees c.types) c f ≡ Some g → LeadsToOwn g → IsFormFunc g → IsOpenForm c g }
+    ensures { (c : ContextData) (f : OpRef) (g : Func) → func_in (type_trees c.types) c f ≡ Some g → LeadsToOwn g → IsFormFunc g → IsRuled (structs_of c.types) g → IsOpenForm c g }
 {}
 
 /// Where the functions of a module are well-formed and their edges lead to blocks of their own, no edge goes to the first

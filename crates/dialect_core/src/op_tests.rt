@@ -16,7 +16,7 @@ ghost use Rattle.dialect_core.specs.Checking.{IsConstantOf, IsKindAt, IsOpAt, en
 use crate::context::Context;
 use crate::numbers::OpRef;
 use crate::ops::{OpKind, Successor, Value};
-use crate::type_tests::{is_bit, is_first_class, is_fitting, same_type, shape_at};
+use crate::type_tests::{is_bit, is_first_class, same_type, shape_at};
 use crate::value_tests::{edges_fit, has_type, type_of};
 use const_attrs::const_attr::ConstAttr;
 use dialect_types::type_store::TypeStore;
@@ -25,17 +25,15 @@ use kinds::fitting::{TypeView, fits, is_nothing};
 use kinds::op::Op;
 use kinds::rules::{Gives, Takes};
 
-/// Whether a constant is an integer of 1 to 64 bits that fits its type, and its operation has that type.
+/// Whether a constant has the type of its operation, which is one of values.
 fn constant_fits(types: &TypeStore, value: &ConstAttr, own: Option<TypeHandle>) -> bool
     requires value { HasTypesBelow (length types.now) (attr_data value.now) }
     requires own { IfSome own (λ t. t.0 < length types.now) }
     ensures { IsTrue result ↔ IsConstantOf (option_map (type_at (type_trees types.now)) own) (attr_tree (type_trees types.now) (attr_data value.now)) }
 {
-    match (value.as_integer(), own) {
-        (Some((ty, number)), Some(own)) => {
-            is_fitting(types, ty, number) && same_type(types, own, ty)
-        }
-        _ => false,
+    match own {
+        Some(ty) => value.has_type(types, ty) && is_first_class(types, ty),
+        None => false,
     }
 }
 
@@ -369,7 +367,7 @@ fn kind_fits(
 {
     match kind {
         OpKind::Module | OpKind::Func => false,
-        OpKind::Constant(value) => constant_op_fits(ctx, value, operands, own, edges),
+        OpKind::Constant(value) => constant_op_fits(ctx, value.attr(), operands, own, edges),
         OpKind::Filled(_fill) => filled_op_fits(ctx, operands, own, edges),
         OpKind::Row(op) => row_fits(ctx, func, *op, operands, own, edges),
     }

@@ -1,6 +1,7 @@
 //! Operations and blocks, as a context keeps them.
 
 ghost use Rattle.std.specs.Prelude.{◌≡◌, IfOk};
+ghost use Rattle.dialect_core.specs.declared.ops.OpKind.TheVariants as kinds;
 
 use crate::linkage::LinkageAttr;
 use crate::numbers::{BlockRef, OpRef};
@@ -31,6 +32,42 @@ pub struct Successor {
     pub args: ShortList<Value>,
 }
 
+/// A constant that lies apart: most operations have none, and are no larger for it.
+#[derive(Drop)]
+pub struct AttrBox {
+    apart: Box<ConstAttr>,
+}
+
+impl Model for AttrBox {
+    ghost use Rattle.std.specs.Coded.{codes};
+    ghost use Rattle.const_attrs.specs.declared.const_attr.ConstAttr.{ConstAttr};
+    ghost use Rattle.const_attrs.specs.contracts.const_attr.ConstAttr as constant;
+
+    ghost Value = { ConstAttr };
+
+    ghost coded = { Prim.hlevel (codes, constant.the_row.coded) };
+
+    ghost view = { λ b. b.apart.value };
+}
+
+impl AttrBox {
+    /// The attribute, kept apart from what holds it. `AllocError` where memory is wanting.
+    pub fn new(alloc: Global, attr: ConstAttr) -> Result<AttrBox, AllocError>
+        ensures { IfOk result (λ b. b ≡ attr) }
+    {
+        Ok(AttrBox {
+            apart: Box::new(alloc, attr)?,
+        })
+    }
+
+    /// The attribute itself.
+    pub fn attr(&self) -> &ConstAttr
+        ensures { result.now ≡ self.now }
+    {
+        &self.apart
+    }
+}
+
 /// What an operation is, with its immediates.
 #[derive(Drop)]
 pub enum OpKind {
@@ -38,12 +75,21 @@ pub enum OpKind {
     Module,
     /// `llvm.func`.
     Func,
-    /// `llvm.constant`, with its `value`: an integer, in an operation that is well-formed.
-    Constant(ConstAttr),
+    /// `llvm.constant`, with its `value`.
+    Constant(AttrBox),
     /// `llvm.zero`, `llvm.undef` or `llvm.poison`, of the type of its result.
     Filled(Fill),
     /// The operation of a row of the table, with its immediates.
     Row(Op),
+}
+
+impl OpKind {
+    /// `llvm.constant` of a value.
+    pub fn constant(alloc: Global, attr: ConstAttr) -> Result<OpKind, AllocError>
+        ensures { IfOk result (λ k. k ≡ kinds.Constant attr) }
+    {
+        Ok(OpKind::Constant(AttrBox::new(alloc, attr)?))
+    }
 }
 
 /// The type and the linkage of a function, and its LLVM name where that is set: where it differs from the function's name.

@@ -290,7 +290,7 @@ fn print_immediates(types: &TypeStore, kind: &OpKind, out: &mut Vec<u8>) -> Resu
     ensures kept { Keeps out.old.items out.new.items }
 {
     match kind {
-        OpKind::Constant(value) => print_constant_immediates(types, value, out),
+        OpKind::Constant(value) => print_constant_immediates(types, value.attr(), out),
         OpKind::Row(op) => print_row_immediates(op.immediates(), out),
         OpKind::Filled(_) => Ok(()),
         OpKind::Module | OpKind::Func => Ok(()),

@@ -2,14 +2,18 @@
 
 ghost use Rattle.std.specs.Prelude.{◌≡◌, ◌<◌, ◌^◌, ◌↔◌, IsTrue, All, length, map};
 ghost use Rattle.kinds.specs.Types.{shape, params_of};
-ghost use Rattle.kinds.specs.Held.{IsFirstClass, IsReturned, IsHeld, IsHeldResult, IsSignature, IsHeldSignature};
+ghost use Rattle.kinds.specs.Held.{width_in, IsFirstClass, IsReturned, IsHeld, IsHeldResult, IsShortWidth, IsSignature, IsHeldSignature};
 ghost use Rattle.dialect_types.specs.Trees.{IntType, type_at, type_tree, type_trees};
-ghost use Rattle.dialect_core.specs.Rules.{IsIntegerOf};
+ghost use Rattle.const_attrs.specs.Trees.{attr_tree, attr_trees, attr_data, attrs_data, HasTypesBelow, HaveTypesBelow};
+ghost use Rattle.dialect_core.specs.Form.{is_fixed, AreShortAttrs, IsIntegerOf, IsShortAttr, IsShortFill};
 
+use const_attrs::const_attr::ConstAttr;
 use dialect_types::type_store::TypeStore;
 use dialect_types::types::{TypeHandle, TypeKind};
+use kinds::fill::Fill;
 use kinds::fitting;
 use kinds::fitting::Shape;
+use kinds::types::VectorTypeKind;
 
 /// The greatest width of an integer constant.
 const MAX_SHORT: u32 = 64;
@@ -216,7 +220,7 @@ fn fits_width(value: u64, width: u32) -> bool
 }
 
 /// Whether a type is an integer type of 1 to 64 bits that a value fits.
-pub fn is_fitting(types: &TypeStore, ty: TypeHandle, value: u64) -> bool
+fn is_fitting(types: &TypeStore, ty: TypeHandle, value: u64) -> bool
     requires { ty.0 < length types.now }
     ensures { IsTrue result ↔ IsIntegerOf (type_at (type_trees types.now) ty) value }
 {
@@ -226,4 +230,75 @@ pub fn is_fitting(types: &TypeStore, ty: TypeHandle, value: u64) -> bool
         }
         _ => false,
     }
+}
+
+/// Whether a type has the width of an integer constant that is translated.
+fn is_short_width(types: &TypeStore, ty: TypeHandle) -> bool
+    requires { ty.0 < length types.now }
+    ensures { IsTrue result ↔ IsShortWidth (width_in (type_at (type_trees types.now) ty)) }
+{
+    match shape_at(types, ty) {
+        Shape::Int(width) => 1 <= width && width <= MAX_SHORT,
+        _ => false,
+    }
+}
+
+/// Whether zero, undef or poison of a type is translated: the zero of an integer type has 1 to 64 bits.
+pub fn is_short_fill(types: &TypeStore, fill: Fill, ty: TypeHandle) -> bool
+    requires { ty.0 < length types.now }
+    ensures { IsTrue result ↔ IsShortFill fill (type_at (type_trees types.now) ty) }
+{
+    fill.is_own(shape_at(types, ty)) || is_short_width(types, ty)
+}
+
+/// Whether a type is a vector of a known length.
+fn is_fixed(types: &TypeStore, ty: TypeHandle) -> bool
+    requires { ty.0 < length types.now }
+    ensures { result ≡ is_fixed (type_at (type_trees types.now) ty) }
+{
+    match types.kind(ty) {
+        TypeKind::Vector(_, _, VectorTypeKind::Fixed) => true,
+        _ => false,
+    }
+}
+
+/// Bytes are below 256.
+fn are_small(bytes: &[u8])
+    ensures { All (λ b. b < 2 ^ 8) bytes.now }
+{}
+
+/// Whether a constant is translated: each integer in it, a zero too, has 1 to 64 bits, which it fits, and no vector of equal
+/// elements in it is scalable.
+#[cycle(is_short)]
+pub fn is_short(types: &TypeStore, value: &ConstAttr) -> bool
+    requires { HasTypesBelow (length types.now) (attr_data value.now) }
+    ensures { IsTrue result ↔ IsShortAttr (attr_tree (type_trees types.now) (attr_data value.now)) }
+{
+    match value {
+        ConstAttr::Integer(ty, number) => is_fitting(types, *ty, *number),
+        ConstAttr::Zero(ty) => is_short_fill(types, Fill::Zero, *ty),
+        ConstAttr::Undef(_) => true,
+        ConstAttr::Poison(_) => true,
+        ConstAttr::Bytes(bytes) => {
+            // This tells the proof of the bytes.
+            are_small(bytes.as_slice());
+            true
+        }
+        ConstAttr::Aggregate(elements, _) => are_short(types, elements.as_slice()),
+        ConstAttr::Splat(element, ty) => is_fixed(types, *ty) && is_short(types, element),
+    }
+}
+
+/// Whether constants are translated.
+#[cycle(is_short)]
+fn are_short(types: &TypeStore, values: &[ConstAttr]) -> bool
+    requires { HaveTypesBelow (length types.now) (attrs_data values.now) }
+    ensures { IsTrue result ↔ AreShortAttrs (attr_trees (type_trees types.now) (attrs_data values.now)) }
+{
+    for value in values {
+        if !is_short(types, value) {
+            return false;
+        }
+    }
+    true
 }

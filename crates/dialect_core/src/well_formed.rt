@@ -1,12 +1,12 @@
 //! Tests of blocks, functions and modules: whether they keep the rules of the dialect.
 
-ghost use Rattle.std.specs.Prelude.{◌≡◌, ◌<◌, ◌↔◌, ◌∷◌, [], IsTrue, IfSome, All, Some, length, slice_get};
+ghost use Rattle.std.specs.Prelude.{◌≡◌, ◌<◌, ◌↔◌, ◌∷◌, [], IsTrue, true, IfSome, All, Some, length, slice_get};
 ghost use Rattle.kinds.specs.Types.{params_of};
 ghost use Rattle.dialect_core.specs.declared.ops.OpKind.TheVariants as kinds;
 ghost use Rattle.dialect_core.specs.Lists.{list_at, from_op};
-ghost use Rattle.dialect_core.specs.ContextData.{IsSymbol, kind_at};
-ghost use Rattle.dialect_core.specs.Data.{DialectBlock, IsTyped, name_at};
-ghost use Rattle.dialect_core.specs.WellFormed.{HasFewEntries, HasFirstClassArgs, IsWellFormed, suits, suits_body, suits_declaration};
+ghost use Rattle.dialect_core.specs.ContextData.{IsSymbol, is_plain, kind_at};
+ghost use Rattle.dialect_core.specs.Data.{DialectBlock, HasKindTypesBelow, IsTyped, name_at};
+ghost use Rattle.dialect_core.specs.WellFormed.{HasFewEntries, HasFirstClassArgs, IsPlainAt, IsWellFormed, KeepsRules, suits, suits_body, suits_declaration};
 ghost use Rattle.dialect_core.specs.Checking.{AreApartFrom, AreFuncLines, AreLines, IsApartFrom, IsBlockAt, IsFuncAt, IsHead, IsLine, func_at};
 
 use crate::context::Context;
@@ -21,8 +21,29 @@ use crate::value_tests::is_past_firsts;
 use crate::walking::{first_in_block, next_in_block};
 use kinds::names::is_own_name;
 
-/// Whether an operation of the function is as its kind is, is a terminator just where none comes after it, and leads to
-/// no first block.
+/// Whether a kind is that of neither a module nor a function, and its constant, where it holds one, keeps the rules.
+fn keeps_rules(ctx: &Context, kind: &OpKind) -> bool
+    requires { HasKindTypesBelow (length ctx.now.types) kind.now }
+    ensures { IsTrue result ↔ (is_plain kind.now ≡ true) × KeepsRules ctx.now kind.now }
+{
+    match kind {
+        OpKind::Module | OpKind::Func => false,
+        OpKind::Constant(value) => value.attr().verify(ctx.types()).is_ok(),
+        OpKind::Filled(_) | OpKind::Row(_) => true,
+    }
+}
+
+/// Whether an operation is neither a module nor a function, and its constant, where it holds one, keeps the rules.
+fn is_plain(ctx: &Context, op: OpRef) -> bool
+    requires op { op.0 < length ctx.now.ops }
+    requires typed { IsTyped ctx.now }
+    ensures { IsTrue result ↔ IsPlainAt ctx.now op }
+{
+    keeps_rules(ctx, ctx.op_kind(op))
+}
+
+/// Whether an operation of the function is as its kind is, its constant keeps the rules, it is a terminator just where none
+/// comes after it, and leads to no first block.
 fn line_fits(ctx: &Context, func: OpRef, op: OpRef, next: Option<OpRef>) -> bool
     requires func { IsSymbol ctx.now.ops func }
     requires within { func.0 < length ctx.now.ops }
@@ -31,6 +52,9 @@ fn line_fits(ctx: &Context, func: OpRef, op: OpRef, next: Option<OpRef>) -> bool
     ensures { IsTrue result ↔ IsLine ctx.now (func_at ctx.now func) op next }
 {
     if !is_past_firsts(ctx, op) {
+        return false;
+    }
+    if !is_plain(ctx, op) {
         return false;
     }
     is_ending(ctx.op_kind(op)) == next.is_none() && op_fits(ctx, func, op)

@@ -6,4 +6,6 @@ pub mod RefusalLaws
 pub mod KindLaws
 pub mod StepLaws
 pub mod CheckedLaws
+pub mod AttrLaws
+pub mod ElementLaws
 pub mod ConstantLaws

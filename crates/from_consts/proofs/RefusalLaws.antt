@@ -32,6 +32,7 @@ module _ (m : Module) where
   cause_as V W before given (E.UndefinedValue n v) to h = h
   cause_as V W before given (E.IntConstTooWide width) to h = h
   cause_as V W before given (E.Unsupported (U.Ty of)) to (t, held, is) = (t, to t held, is)
+  cause_as V W before given (E.Unsupported U.ScalableSplat) to h = h
   cause_as V W before given (E.Struct (S.DifferentBody i)) to h = other_as V W before given i to h
   cause_as V W before given (E.Struct S.NoMemory) to h = h
   cause_as V W before given E.NoMemory to h = h
@@ -76,6 +77,7 @@ module _ (m : Module) where
   cause_before V W x given old new (E.UndefinedValue n v) legal goes added h = h
   cause_before V W x given old new (E.IntConstTooWide width) legal goes added h = h
   cause_before V W x given old new (E.Unsupported (U.Ty of)) legal goes added h = h
+  cause_before V W x given old new (E.Unsupported U.ScalableSplat) legal goes added h = h
   cause_before V W x given old new (E.Struct (S.DifferentBody i)) legal goes added h = other_before V W x given old new i legal goes added h
   cause_before V W x given old new (E.Struct S.NoMemory) legal goes added h = h
   cause_before V W x given old new E.NoMemory legal goes added h = h

@@ -10,6 +10,7 @@ use Rattle.from_consts.specs.declared.conversion_err.Unsupported.TheVariants as 
 abbrev pub of_held : HeldErr → ConversionErr
 of_held (H.Lacks of) = E.Unsupported (U.Ty of)
 of_held (H.TooWide width) = E.IntConstTooWide width
+of_held H.ScalableSplat = E.Unsupported U.ScalableSplat
 of_held H.NoMemory = E.NoMemory
 
 -- want of memory has an answer of its own

@@ -1,5 +1,8 @@
--- What a type of an LLVM module is made of, by numbers: its parts, and the fields of the structs that it names.
+-- What a type or a constant of an LLVM module is made of, by numbers: its parts, and the fields of the structs that a type names.
 use Rattle.std.specs.Prelude.{◌≡◌, ℕ, List, [], ◌∷◌, Some, slice_get}
+use Rattle.llvm_core.specs.declared.consts.LLVMConstKind.{LLVMConstKind}
+use Rattle.llvm_core.specs.declared.consts.LLVMConstKind.TheVariants as C
+use Rattle.llvm_core.specs.declared.numbers.LLVMConst.{LLVMConst}
 use Rattle.llvm_core.specs.declared.numbers.LLVMStruct.{LLVMStruct}
 use Rattle.llvm_core.specs.declared.numbers.LLVMType.{LLVMType}
 use Rattle.llvm_core.specs.declared.structs.StructData.{StructData}
@@ -54,3 +57,16 @@ HasNamed m W name = (t : LLVMType) × W t × IsNamed m t name
 -- u is within a field of the struct of that number
 abbrev pub IsInStruct : Module → LLVMStruct → LLVMType → Type 0
 IsInStruct m s u = (x : StructData) × (b : StructFields) × (slice_get m.structs s.0 ≡ Some x) × (x.body ≡ Some b) × IsAmong m b.types u
+
+-- ---- constants
+
+-- the numbers of the constants that a constant is made of: a line for each kind that has such
+abbrev pub elements_in : LLVMConstKind → List LLVMConst
+elements_in (C.List t elements) = elements
+elements_in (C.Splat t element) = element ∷ []
+elements_in _ = []
+
+-- d is c, or a constant that c is made of, all the way in
+pub data IsInside (m : Module) (d : LLVMConst) : LLVMConst → Type 0 where
+  TheWhole : IsInside m d d
+  InElement : (c e : LLVMConst) (k : LLVMConstKind) (place : ℕ) → slice_get m.consts c.0 ≡ Some k → slice_get (elements_in k) place ≡ Some e → IsInside m d e → IsInside m d c

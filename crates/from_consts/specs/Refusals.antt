@@ -29,6 +29,7 @@ abbrev pub IsCause : Module → (LLVMType → Type 0) → (before : List Struct)
 IsCause m W before given (E.UndefinedValue name v) = ⊥
 IsCause m W before given (E.IntConstTooWide width) = ⊥
 IsCause m W before given (E.Unsupported (U.Ty of)) = (t : LLVMType) × W t × (slice_get m.types t.0 ≡ Some (T.Other of))
+IsCause m W before given (E.Unsupported U.ScalableSplat) = ⊥
 IsCause m W before given (E.Struct (S.DifferentBody identifier)) = HasOtherStruct m W before given identifier
 IsCause m W before given (E.Struct S.NoMemory) = ⊥
 IsCause m W before given E.NoMemory = Unit {0}

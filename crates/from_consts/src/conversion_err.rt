@@ -18,6 +18,9 @@ use thiserror::Error;
 pub enum Unsupported {
     /// A type for which the dialect has none: the type that is converted, or in an import that of a value, is it or holds it.
     Ty(OtherType),
+    /// A constant of a scalable vector type, of which each element is the same: the constant that is converted is it or is made of
+    /// it.
+    ScalableSplat,
 }
 
 /// Why a type or a constant is not converted, or a module not imported.
@@ -28,8 +31,8 @@ pub enum ConversionErr {
     /// in another block; or they share a block, and the definition is not ahead of the use.
     #[error("UndefinedValue")]
     UndefinedValue(Text, LLVMValue),
-    /// The constant that is converted is an integer of this width, which is more than 64 bits, or an instruction of the module
-    /// that is imported uses one.
+    /// The constant that is converted is an integer of this width, which is more than 64 bits, or is made of one, or an instruction
+    /// of the module that is imported uses one.
     #[error("IntConstTooWide")]
     IntConstTooWide(u32),
     /// A part that is not translated.
@@ -57,6 +60,7 @@ impl From<HeldErr> for ConversionErr {
         match e {
             HeldErr::Lacks(of) => ConversionErr::Unsupported(Unsupported::Ty(of)),
             HeldErr::TooWide(width) => ConversionErr::IntConstTooWide(width),
+            HeldErr::ScalableSplat => ConversionErr::Unsupported(Unsupported::ScalableSplat),
             HeldErr::NoMemory => ConversionErr::NoMemory,
         }
     }

@@ -14,8 +14,7 @@ use Rattle.dialect_core.specs.declared.ops.OpKind.TheVariants as K
 use Rattle.dialect_core.specs.declared.ops.OpData.{OpData}
 use Rattle.dialect_core.specs.declared.ops.BlockData.{BlockData}
 use Rattle.dialect_core.specs.Lists.{list_at}
-use Rattle.dialect_core.specs.ContextData.{ContextData, with_op, with_block, with_appended, kind_at}
-use Rattle.dialect_core.specs.WellFormed.{IsPlainAt}
+use Rattle.dialect_core.specs.ContextData.{ContextData, with_op, with_block, with_appended, kind_at, IsPlainKindAt}
 use Rattle.dialect_core.proofs.CallerLemmas.{old_kind, changed_kind}
 use Rattle.dialect_core.proofs.FilterLemmas.{change_get, change_get_other}
 use Rattle.from_llvm_ir.specs.Imported.{HasFuncsApart}
@@ -65,21 +64,21 @@ kept_kind ops x o k h = old_kind ops x o (kind_there ops o k h) ∙ h
 pub op_apart : (c : ContextData) (x : OpData) (body : BlockRef) → HasFuncsApart c body → HasFuncsApart (with_op c x) body
 op_apart c x body h = record {
   funcs = All-weaker (λ (o : OpRef). kind_at c.ops o ≡ Some K.Func) (λ (o : OpRef). kind_at (c.ops ++ x ∷ []) o ≡ Some K.Func) (λ o k. kept_kind c.ops x o K.Func k) (list_at c.lists body) h.funcs;
-  plain = λ b behind within. All-weaker (IsPlainAt c) (IsPlainAt (with_op c x)) (λ o p. (p.0, kept_kind c.ops x o p.0 p.1, p.2)) (list_at c.lists b) (h.plain b behind within);
+  plain = λ b behind within. All-weaker (IsPlainKindAt c.ops) (IsPlainKindAt (with_op c x).ops) (λ o p. (p.0, kept_kind c.ops x o p.0 p.1, p.2)) (list_at c.lists b) (h.plain b behind within);
 }
 
 -- a function that the block for functions takes
 pub func_apart : (c : ContextData) (o : OpRef) (body : BlockRef) → HasFuncsApart c body → kind_at c.ops o ≡ Some K.Func → HasFuncsApart (with_appended c o body) body
 func_apart c o body h kind = record {
   funcs = pushed_all (λ (p : OpRef). kind_at c.ops p ≡ Some K.Func) c.lists o body.0 body kind h.funcs;
-  plain = λ b behind within. let Q : List OpRef → Type 0 = All (IsPlainAt c) in subst Q (sym (pushed_other c.lists o body.0 b (λ same. omega (arith, same, behind)))) (h.plain b behind within);
+  plain = λ b behind within. let Q : List OpRef → Type 0 = All (IsPlainKindAt c.ops) in subst Q (sym (pushed_other c.lists o body.0 b (λ same. omega (arith, same, behind)))) (h.plain b behind within);
 }
 
 -- any other operation, which another block takes
-pub plain_apart : (c : ContextData) (o : OpRef) (b body : BlockRef) → HasFuncsApart c body → IsPlainAt c o → ¬ (body.0 ≡ b.0) → HasFuncsApart (with_appended c o b) body
+pub plain_apart : (c : ContextData) (o : OpRef) (b body : BlockRef) → HasFuncsApart c body → IsPlainKindAt c.ops o → ¬ (body.0 ≡ b.0) → HasFuncsApart (with_appended c o b) body
 plain_apart c o b body h plain differs = record {
   funcs = let Q : List OpRef → Type 0 = All (λ (p : OpRef). kind_at c.ops p ≡ Some K.Func) in subst Q (sym (pushed_other c.lists o b.0 body differs)) h.funcs;
-  plain = λ p behind within. pushed_all (IsPlainAt c) c.lists o b.0 p plain (h.plain p behind within);
+  plain = λ p behind within. pushed_all (IsPlainKindAt c.ops) c.lists o b.0 p plain (h.plain p behind within);
 }
 
 -- ---- a block more
@@ -115,8 +114,8 @@ block_apart c b body x h number empty =
     record {
       funcs = listed (λ (o : OpRef). kind_at after.ops o ≡ Some K.Func) body
           (All-weaker (λ (o : OpRef). kind_at c.ops o ≡ Some K.Func) (λ (o : OpRef). kind_at after.ops o ≡ Some K.Func) (λ o k. grown_kind c.ops b x.holder.0 o ∙ k) (list_at c.lists body) h.funcs);
-      plain = λ p behind within. block_lists c b x (IsPlainAt after) p number empty within (λ small.
-          All-weaker (IsPlainAt c) (IsPlainAt after) (λ o q. (q.0, grown_kind c.ops b x.holder.0 o ∙ q.1, q.2)) (list_at c.lists p) (h.plain p behind small));
+      plain = λ p behind within. block_lists c b x (IsPlainKindAt after.ops) p number empty within (λ small.
+          All-weaker (IsPlainKindAt c.ops) (IsPlainKindAt after.ops) (λ o q. (q.0, grown_kind c.ops b x.holder.0 o ∙ q.1, q.2)) (list_at c.lists p) (h.plain p behind small));
     }
   where
     listed : (P : OpRef → Type 0) (p : BlockRef) → All P (list_at c.lists p) → All P (list_at (c.lists ++ [] ∷ []) p)

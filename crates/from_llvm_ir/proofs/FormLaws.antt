@@ -7,8 +7,9 @@ use Rattle.std.proofs.lemmas.List.Elements.{All-nil, All-cons, All-append, All-m
 use Rattle.meaning.proofs.MatchedLaws.{matched_length, matched_at}
 use Rattle.support.proofs.ListLaws.{all_from, filter_from}
 use Rattle.llvm_core.specs.Form as LF
+use Rattle.llvm_core.specs.Form.{IsFormConst}
 use Rattle.llvm_core.specs.Data as L
-use Rattle.llvm_core.specs.Data.{ConstTree, IntConst, FilledConst, BytesConst, ListConst, SplatConst, PlaceholderConst, Placed, const_type, targets}
+use Rattle.llvm_core.specs.Data.{ConstTree, Placed, const_type, targets}
 use Rattle.dialect_types.specs.Trees.{TypeTree}
 use Rattle.dialect_core.specs.declared.ops.Value.{Value}
 use Rattle.dialect_core.specs.declared.ops.Successor.{Successor}
@@ -20,13 +21,15 @@ use Rattle.kinds.specs.Table.{rule_of}
 use Rattle.kinds.proofs.HeldLaws.{first_class_own, returned_own, held_first_class, held_result_if, held_result_own}
 use Rattle.dialect_core.specs.Rules as R
 use Rattle.dialect_core.specs.Form as DF
-use Rattle.dialect_core.specs.Data.{DialectOp, DialectBlock, Func, Kind, llvm_name_of, value_type}
+use Rattle.dialect_core.specs.Data.{DialectOp, DialectBlock, Func, Kind, ConstantOp, FilledOp, llvm_name_of, value_type}
 use Rattle.meaning.specs.Pairs.{Matched}
 use Rattle.kinds.specs.Names.{is_good_name, is_own_name}
-use Rattle.from_llvm_ir.specs.Imported.{rest_of, phis_of, front_for}
+use Rattle.from_llvm_ir.specs.Imported.{own_kind, rest_of, phis_of, front_for}
 use Rattle.from_llvm_ir.specs.Source.{IsUsable}
 use Rattle.from_llvm_ir.specs.Known.{Known, Stands, IsConstantOp, IsHeldConst, blocks_of}
 use Rattle.from_llvm_ir.specs.Converted.{IsKind, IsEdge, IsRow, IsConverted}
+use Rattle.from_consts.proofs.AttrLaws.{attr_type_same}
+use Rattle.from_llvm_ir.proofs.AttrLaws.{attr_short, kind_cases, own_fill}
 use Rattle.from_llvm_ir.proofs.ListLaws.{other_there}
 use Rattle.from_llvm_ir.proofs.RowLaws.{HaveTypes, if_own, first_class, all_typed, values_fit, values_give}
 use Rattle.from_llvm_ir.proofs.NameLaws.{good_own, kept_back}
@@ -43,13 +46,16 @@ kind_tests : (i : L.Instruction) (κ : Kind) → IsKind i κ → (DF.is_constant
 kind_tests (L.Phi es) κ h = elim h [ ]
 kind_tests (L.Applied r) κ h = (ap DF.is_constant_kind h, ap DF.is_terminator_kind h)
 
+constant_kind_tests : (c : ConstTree) (κ : Kind) → own_kind c ≡ Some κ → (DF.is_constant_kind κ ≡ true) × (DF.is_terminator_kind κ ≡ false)
+constant_kind_tests c κ is = elim (kind_cases c κ is) [
+  | inl h ↦ (ap DF.is_constant_kind h.is, ap DF.is_terminator_kind h.is)
+  | inr h ↦ (ap DF.is_constant_kind h.is, ap DF.is_terminator_kind h.is)
+]
+
 pub constant_tests : (c : ConstTree) (o : DialectOp) → IsConstantOp c o → (DF.is_constant o ≡ true) × (DF.is_terminator o ≡ false) × (o.successors ≡ []) × (o.operands ≡ [])
-constant_tests (IntConst w v) o h = (ap DF.is_constant h, ap DF.is_terminator h, ap (λ (x : DialectOp). x.successors) h, ap (λ (x : DialectOp). x.operands) h)
-constant_tests (FilledConst fill t) o h = (ap DF.is_constant h, ap DF.is_terminator h, ap (λ (x : DialectOp). x.successors) h, ap (λ (x : DialectOp). x.operands) h)
-constant_tests (BytesConst bytes) o h = elim h [ ]
-constant_tests (ListConst t cs) o h = elim h [ ]
-constant_tests (SplatConst t c) o h = elim h [ ]
-constant_tests (PlaceholderConst n t) o h = elim h [ ]
+constant_tests c o h =
+    let kind = constant_kind_tests c h.0 h.1 in
+    (ap DF.is_constant h.2 ∙ kind.0, ap DF.is_terminator h.2 ∙ kind.1, ap (λ (x : DialectOp). x.successors) h.2, ap (λ (x : DialectOp). x.operands) h.2)
 
 -- of the width of what a row gives nothing is asked
 kind_short : (i : L.Instruction) (κ : Kind) (own : Option TypeTree) → IsKind i κ → IfSome own (DF.IsShortKind κ)
@@ -78,24 +84,22 @@ module _ (n : Head) (k : Known) (cs : List DialectBlock) (h : IsWhole k cs) wher
   -- ---- operations
 
   constant_form : (c : ConstTree) (o : DialectOp) → IsHeldConst c → IsConstantOp c o → DF.IsFormOp G o
-  constant_form (IntConst w v) o s m = subst (DF.IsFormOp G) (sym m) (record {
-    kind = record { integer = (w, refl, (s.form.0, s.short), s.form.1.0); result = refl; bare = refl; ends_here = refl };
-    operands = All-nil _;
-    passed = All-nil _;
-    result = s.held;
-    short = tt;
-  })
-  constant_form (FilledConst fill t) o s m = subst (DF.IsFormOp G) (sym m) (record {
-    kind = record { type = t; result = refl; value = held_first_class t s.held; bare = refl; ends_here = refl };
-    operands = All-nil _;
-    passed = All-nil _;
-    result = s.held;
-    short = λ other. absurd (let no : ⊥ = cc (s.form, other) in no);
-  })
-  constant_form (BytesConst bytes) o s m = elim m [ ]
-  constant_form (ListConst t cs) o s m = elim m [ ]
-  constant_form (SplatConst t c) o s m = elim m [ ]
-  constant_form (PlaceholderConst q t) o s m = elim m [ ]
+  constant_form c o s m = elim (kind_cases c m.0 m.1) [
+    | inl h ↦ made (FilledOp h.fill) h.is (record { type = const_type c; result = refl; value = held_first_class (const_type c) s.held; bare = refl; ends_here = refl })
+        (subst (DF.IsShortFill h.fill) (sym (ap const_type h.tree)) (λ other. absurd (own_fill h.fill h.type (subst IsFormConst h.tree s.form) other)))
+    | inr h ↦ let typed = sym (attr_type_same c h.attr h.of) in
+        made (ConstantOp h.attr) h.is (record { value = subst IsFirstClass typed (held_first_class (const_type c) s.held); result = ap Some typed; bare = refl; ends_here = refl })
+        (attr_short c h.attr s.form s.short h.of)
+  ]
+    where
+      made : (κ : Kind) → m.0 ≡ κ → R.IsOfKind (value_type G) G [] (Some (const_type c)) [] κ → DF.IsShortKind κ (const_type c) → DF.IsFormOp G o
+      made κ is kind short = subst (DF.IsFormOp G) (sym m.2) (record {
+        kind = subst (R.IsOfKind (value_type G) G [] (Some (const_type c)) []) (sym is) kind;
+        operands = All-nil _;
+        passed = All-nil _;
+        result = s.held;
+        short = subst (λ (x : Kind). DF.IsShortKind x (const_type c)) (sym is) short;
+      })
 
   -- a constant that has an operation is of a type that is translated
   known_held : (o : L.Operand) (w : Value) → Stands k o w → (c : ConstTree) → o ≡ L.Constant c → IsHeldResult (const_type c)

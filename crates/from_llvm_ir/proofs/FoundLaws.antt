@@ -89,19 +89,19 @@ still_ready m f old new g h from ready same source = subst (IsReadyFor h) (sym s
 
 -- what it returns, takes, and what its instructions give
 pub result_ready : (g : L.Function) (structs : List Struct) → IsReadyFor g structs → NamesAmong structs (result_of g.type)
-result_ready g structs ready = within_at (value_types g) (NamesAmong structs) ready 0 (result_of g.type) refl
+result_ready g structs ready = within_at (value_types g) (NamesAmong structs) ready.0 0 (result_of g.type) refl
 
 pub params_ready : (g : L.Function) (structs : List Struct) → IsReadyFor g structs → (i : ℕ) (t : TypeTree) → slice_get (params_of g.type) i ≡ Some t → NamesAmong structs t
 params_ready g structs ready i t at =
     let results = map (λ (p : Placed). p.type) (placed_in g) in
-    within_at (value_types g) (NamesAmong structs) ready (ℕ.suc i) t (slice_get-kept (params_of g.type ++ results) (flat_map constant_types (placed_in g)) i t (slice_get-kept (params_of g.type) results i t at))
+    within_at (value_types g) (NamesAmong structs) ready.0 (ℕ.suc i) t (slice_get-kept (params_of g.type ++ results) (flat_map constant_types (placed_in g)) i t (slice_get-kept (params_of g.type) results i t at))
 
 pub placed_ready : (g : L.Function) (structs : List Struct) → IsReadyFor g structs → (i : ℕ) (p : Placed) → slice_get (placed_in g) i ≡ Some p → NamesAmong structs p.type
 placed_ready g structs ready i p at =
     let results = map (λ (p : Placed). p.type) (placed_in g) in
     let constants = flat_map constant_types (placed_in g) in
     let here = slice_get-map (λ (p : Placed). p.type) (placed_in g) i ∙ ap (option_map (λ (p : Placed). p.type)) at in
-    within_at (value_types g) (NamesAmong structs) ready (ℕ.suc (length (params_of g.type) + i)) p.type
+    within_at (value_types g) (NamesAmong structs) ready.0 (ℕ.suc (length (params_of g.type) + i)) p.type
     (slice_get-kept (params_of g.type ++ results) constants (length (params_of g.type) + i) p.type (slice_get-behind (params_of g.type) results i ∙ here))
 
 pub inst_ready : (g : L.Function) (structs : List Struct) → IsReadyFor g structs → (place : ℕ) (b : L.Block) (at : ℕ) (p : Placed) → slice_get g.blocks place ≡ Some b → slice_get b.instructions at ≡ Some p → NamesAmong structs p.type
@@ -130,13 +130,9 @@ module _ (d : ModuleData) (pairs : StructNames) (names : AreStructNames pairs) (
       let held : HasTypeWith d (NamedType n.0) = record { place = k; f = f; at = at; index = i; type = t; here = here; holds = held_itself d.structs (NamedType n.0) t n.2 } in
       made_there n.0 (all n.0 held) (ap (struct_in target) n.1 ∙ none)
 
-  function_ready : (k : ℕ) (f : L.Function) → slice_get d.functions k ≡ Some f → IsReadyFor (renamed_function (struct_name pairs) f) target
-  function_ready k f at =
+  -- each struct that the type of a value of a function names stands in the context
+  pub function_named : (k : ℕ) (f : L.Function) → slice_get d.functions k ≡ Some f → All (NamesAmong target) (value_types (renamed_function (struct_name pairs) f))
+  function_named k f at =
       subst (All (NamesAmong target)) (sym (renamed_value_types (struct_name pairs) f)) (all_from (NamesAmong target) (map (renamed (struct_name pairs)) (value_types f)) (λ i t here.
       let u = get_from (renamed (struct_name pairs)) (value_types f) i t here in
       subst (NamesAmong target) u.2 (value_ready k i f u.0 at u.1)))
-
-  pub functions_ready : All (λ (g : L.Function). IsReadyFor g target) (map (renamed_function (struct_name pairs)) d.functions)
-  functions_ready = all_from (λ (g : L.Function). IsReadyFor g target) (map (renamed_function (struct_name pairs)) d.functions) (λ k g at.
-      let f = get_from (renamed_function (struct_name pairs)) d.functions k g at in
-      subst (λ (g : L.Function). IsReadyFor g target) f.2 (function_ready k f.0 f.1))

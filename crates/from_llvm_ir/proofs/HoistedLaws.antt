@@ -1,19 +1,21 @@
 -- The rows of hoisted constants: each sets its value to its constant's term, and leaves all others.
-use Rattle.std.proofs.Common.{ℕ, ◌≡◌, refl, sym, ap, ◌∙◌, Bool, true, false, ◌||◌, if◌then◌else◌, List, [], ◌∷◌, Some, map, slice_get, arith, eq-eqb, ne_eqb}
+use Rattle.std.proofs.Common.{ℕ, ◌≡◌, refl, sym, ap, ◌∙◌, Bool, true, false, ◌||◌, if◌then◌else◌, List, [], ◌∷◌, Some, None, inl, inr, map, slice_get, arith, eq-eqb, ne_eqb}
 use Rattle.std.proofs.lemmas.Option.{same_Some}
-use Rattle.llvm_core.specs.Data.{ConstTree, IntConst, FilledConst, BytesConst, ListConst, SplatConst, PlaceholderConst}
+use Rattle.llvm_core.specs.Data.{ConstTree, const_type}
 use Rattle.dialect_core.specs.declared.ops.Value.{Value}
 use Rattle.dialect_core.specs.declared.ops.Value.TheVariants as V
-use Rattle.dialect_core.specs.Data.{DialectOp, Func}
-use Rattle.meaning.specs.Terms.{Unset}
-use Rattle.meaning.specs.Machine.{Row, State, Holds, straight, begin, set_in}
+use Rattle.dialect_core.specs.Data.{DialectOp, Func, Kind}
+use Rattle.meaning.specs.Terms.{Term, Unset, filled_term}
+use Rattle.meaning.specs.Machine.{Action, Row, State, Holds, straight, begin, set_in}
 use Rattle.meaning.specs.Setting.{Setting}
 use Rattle.meaning.specs.Pairs.{Matched}
 use Rattle.meaning.specs.Llvm.{const_term}
 use Rattle.meaning.specs.Dialect as dialect
 use Rattle.meaning.specs.Dialect.{same_value}
 use Rattle.meaning.specs.Shape.{among, IsClosed, term_among}
+use Rattle.from_llvm_ir.specs.Building.{new_op}
 use Rattle.from_llvm_ir.specs.Known.{IsConstantOp, value_of}
+use Rattle.from_llvm_ir.proofs.AttrLaws.{attr_means, kind_cases}
 
 module _ (made : Setting) (G : Func) where
   abbrev pub rows_of : List DialectOp → List (Row Value)
@@ -21,12 +23,13 @@ module _ (made : Setting) (G : Func) where
 
   -- a constant's operation holds its term
   pub holds : (source : Setting) (c : ConstTree) (o : DialectOp) → IsConstantOp c o → (dialect.row made G o).action ≡ Holds (const_term source c)
-  holds source (IntConst w v) o m = ap (λ (x : DialectOp). dialect.action made G x x.kind) m
-  holds source (FilledConst fill t) o m = ap (λ (x : DialectOp). dialect.action made G x x.kind) m
-  holds source (BytesConst bytes) o m = elim m [ ]
-  holds source (ListConst t cs) o m = elim m [ ]
-  holds source (SplatConst t c) o m = elim m [ ]
-  holds source (PlaceholderConst n t) o m = elim m [ ]
+  holds source c o m =
+      let bare : Kind → DialectOp = λ k. new_op o.number None k [] [] (Some (const_type c)) in
+      let holding : Term → Action Value = λ t. Holds t in
+      ap (λ (x : DialectOp). dialect.action made G x x.kind) m.2 ∙ elim (kind_cases c m.0 m.1) [
+        | inl h ↦ ap (dialect.action made G (bare m.0)) h.is ∙ ap (λ (x : ConstTree). holding (filled_term h.fill (const_type x))) h.tree ∙ ap (λ (x : ConstTree). holding (const_term source x)) (sym h.tree)
+        | inr h ↦ ap (dialect.action made G (bare m.0)) h.is ∙ ap holding (attr_means source made c h.attr h.of)
+      ]
 
   pub closed : (done : List (Row Value)) (cs : List ConstTree) (os : List DialectOp) → Matched IsConstantOp cs os → IsClosed done (rows_of os)
   closed done [] [] h = tt

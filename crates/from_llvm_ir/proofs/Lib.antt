@@ -18,6 +18,7 @@ pub mod UnderLaws
 pub mod SourceLaws
 pub mod KindLaws
 pub mod FoundLaws
+pub mod ElementLaws
 pub mod PartsLaws
 pub mod RefusedLaws
 pub mod RenamedWalks
@@ -34,7 +35,10 @@ pub mod Whole
 pub mod EdgeLaws
 pub mod EndLaws
 pub mod FormLaws
+pub mod RuledLaws
 pub mod ValueLaws
+pub mod AttrLaws
+pub mod MadeLaws
 pub mod ConstLaws
 pub mod HoistLaws
 pub mod FrameLaws

@@ -4,14 +4,16 @@ use Rattle.std.specs.Str.{bytes_eq}
 use Rattle.std.specs.List.{find}
 use Rattle.std.specs.Option.{option_map}
 use Rattle.std.proofs.lemmas.Bool.{eq-eqb, eqb-true}
-use Rattle.std.proofs.lemmas.List.Elements.{All-nil, All-cons}
+use Rattle.std.proofs.lemmas.List.Elements.{All-nil, All-cons, All-head, All-tail}
 use Rattle.std.proofs.lemmas.Option.{same_Some, slice_get-map, slice_get_within}
 use Rattle.std.proofs.lemmas.Slice.Eq.{bytes_eq-Decides}
 use Rattle.support.proofs.ListLaws.{item_there}
+use Rattle.kinds.specs.Structs.{Struct}
 use Rattle.llvm_core.specs.Data.{ModuleData, Function}
+use Rattle.llvm_core.specs.Form.{HasMadeOperands}
 use Rattle.dialect_types.specs.Legalised.{Named, Gave}
 use Rattle.dialect_core.specs.Data as D
-use Rattle.dialect_core.specs.Form.{IsFormFunc, IsExportable}
+use Rattle.dialect_core.specs.Form.{IsFormFunc, IsRuled, IsExportable}
 use Rattle.meaning.specs.Code.{IsDistinctNames}
 use Rattle.from_llvm_ir.specs.declared.matching.FunctionBlocks.{FunctionBlocks}
 use Rattle.from_llvm_ir.specs.Match.{place_at, match_of}
@@ -71,6 +73,16 @@ exportable_imported d given [] [] (g ∷ gs) h = elim h [ ]
 exportable_imported d given [] (x ∷ xs) gs h = elim h [ ]
 exportable_imported d given (f ∷ fs) [] gs h = elim h [ ]
 exportable_imported d given (f ∷ fs) (x ∷ xs) [] h = elim h [ ]
+
+-- they keep the rules of constants where the structs are those that the constants of the source are made for
+pub ruled_imported : (d : ModuleData) (given : List Named) (structs : List Struct) (fs : List Function) (xs : List FunctionBlocks) (gs : List D.Func) → AreImported d given fs xs gs → All (HasMadeOperands structs) fs → All (IsRuled structs) gs
+ruled_imported d given structs [] [] [] NoneImported made = All-nil (IsRuled structs)
+ruled_imported d given structs (f ∷ fs) (x ∷ xs) (g ∷ gs) (ThenImported _ _ _ _ _ _ one more) made =
+    All-cons (IsRuled structs) g gs (one.ruled structs (All-head (HasMadeOperands structs) f fs made)) (ruled_imported d given structs fs xs gs more (All-tail (HasMadeOperands structs) f fs made))
+ruled_imported d given structs [] [] (g ∷ gs) h made = elim h [ ]
+ruled_imported d given structs [] (x ∷ xs) gs h made = elim h [ ]
+ruled_imported d given structs (f ∷ fs) [] gs h made = elim h [ ]
+ruled_imported d given structs (f ∷ fs) (x ∷ xs) [] h made = elim h [ ]
 
 pub names_imported : (d : ModuleData) (given : List Named) (fs : List Function) (xs : List FunctionBlocks) (gs : List D.Func) → AreImported d given fs xs gs → map D.llvm_name_of gs ≡ function_names fs
 names_imported d given [] [] [] NoneImported = refl

@@ -10,7 +10,9 @@ use Rattle.llvm_core.specs.declared.numbers.LLVMFunction.{LLVMFunction}
 use Rattle.llvm_core.specs.Module.{Module}
 use Rattle.llvm_core.specs.Data as L
 use Rattle.llvm_core.specs.Data.{data_of as source_of}
+use Rattle.llvm_core.specs.Form.{HasMadeOperands}
 use Rattle.llvm_core.proofs.DataLemmas.{function_count}
+use Rattle.dialect_types.specs.Trees.{structs_of}
 use Rattle.dialect_types.specs.Legalised.{Named, Gave, GoesOn, IsGiven, IsLegalised}
 use Rattle.dialect_types.proofs.LegalLaws.{gave_kept}
 use Rattle.dialect_core.specs.declared.numbers.BlockRef.{BlockRef}
@@ -40,6 +42,7 @@ use Rattle.from_llvm_ir.proofs.ListLaws.{matched_next, matched_weaker}
 use Rattle.from_llvm_ir.proofs.NameLaws.{first_names, met_one, met_then}
 use Rattle.from_llvm_ir.proofs.BuildLaws.{at_end, length-push, region_more}
 use Rattle.from_llvm_ir.proofs.OwnLaws.{own_start, own_op, own_block}
+use Rattle.from_llvm_ir.proofs.MatchedLaws.{ruled_imported}
 use Rattle.from_llvm_ir.proofs.WellLaws.{well_formed}
 
 abbrev pub module_op : List ℕ → OpData
@@ -115,13 +118,14 @@ imported_more d given k g c c' o body name xs x h at one = record {
 
 -- the module is imported when all functions are, and its lists are short
 pub imported_whole : (m : Module) (given : List Named) (c : ContextData) (i : Imported) (body : BlockRef) (name : List ℕ) → IsLegalised given → BeginsWith (source_of m) given → Gave given m.name name → AreRegions (region_at c.ops) (holder_at c.blocks) → ((o : OpRef) → kind_at c.ops o ≡ Some K.Func → IsSymbol c.ops o)
-    → IsFew (list_at c.lists body) × All (IsFewFunc c) (list_at c.lists body) → All (λ (p : List ℕ × List ℕ). Gave given p.0 p.1) (pairs_of i.structs.items) → IsImportedTo (source_of m) given (length m.functions) c i.«module».0.0 body name i.blocks → IsImported (source_of m) c i
-imported_whole m given c i body name legal begins gave regions symbols few structs h =
+    → IsFew (list_at c.lists body) × All (IsFewFunc c) (list_at c.lists body) → All (λ (p : List ℕ × List ℕ). Gave given p.0 p.1) (pairs_of i.structs.items) → IsImportedTo (source_of m) given (length m.functions) c i.«module».0.0 body name i.blocks → All (HasMadeOperands (structs_of c.types)) (source_of m).functions → IsImported (source_of m) c i
+imported_whole m given c i body name legal begins gave regions symbols few structs h made =
     let same : imported_data c i ≡ h.so_far = h.building.is in
     let all = take_all (length m.functions) (source_of m).functions (omega (arith, function_count m)) in
     let building = subst (λ (d : DialectModule). IsBuilding c i.«module».0.0 body d) (sym same) h.building in
     let functions = subst (λ (d : DialectModule). AreImported (source_of m) given (source_of m).functions i.blocks d.functions) (sym same)
     (subst (λ (fs : List L.Function). AreImported (source_of m) given fs i.blocks h.so_far.functions) all h.functions) in
+    let ruled = ruled_imported (source_of m) given (structs_of c.types) (source_of m).functions i.blocks (imported_data c i).functions functions made in
     record {
       given = given;
       legalised = legal;
@@ -131,7 +135,8 @@ imported_whole m given c i body name legal begins gave regions symbols few struc
       name = subst (Gave given m.name) (sym (ap (λ (d : DialectModule). d.name) same ∙ h.name_is)) gave;
       structs = structs;
       functions = functions;
-      well_formed = well_formed (source_of m) given legal c i.«module».0.0 body i.blocks building functions regions symbols few;
+      ruled = ruled;
+      well_formed = well_formed (source_of m) given legal c i.«module».0.0 body i.blocks building functions regions symbols few ruled;
     }
 
 -- an import that begins with no names meets first that of the module and then those of its functions

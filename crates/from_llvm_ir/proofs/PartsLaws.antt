@@ -10,7 +10,7 @@ use Rattle.kinds.specs.Structs.{Struct, struct_in}
 use Rattle.llvm_core.specs.Module.{Module}
 use Rattle.llvm_core.specs.Data as L
 use Rattle.llvm_core.specs.Data.{ModuleData, data_of}
-use Rattle.llvm_core.specs.Form.{IsForm, IsFormFunction, IsHeldFunction}
+use Rattle.llvm_core.specs.Form.{HasMadeOperands, IsForm, IsFormFunction, IsHeldFunction}
 use Rattle.llvm_core.proofs.DataLemmas.{within_at}
 use Rattle.dialect_core.specs.declared.numbers.BlockRef.{BlockRef}
 use Rattle.dialect_core.specs.declared.numbers.OpRef.{OpRef}
@@ -46,7 +46,7 @@ use Rattle.from_llvm_ir.specs.Staying.{AllStay}
 use Rattle.renamed_source.specs.Source.{pairs_of}
 use Rattle.from_llvm_ir.specs.Structs.{AreMade, AreNamed, HasOtherBody, IsStructMatch, StructNames, source_names}
 use Rattle.from_llvm_ir.specs.Types.{IsReadyFor}
-use Rattle.from_llvm_ir.proofs.FoundLaws.{functions_ready}
+use Rattle.from_llvm_ir.proofs.ElementLaws.{functions_ready}
 use Rattle.from_llvm_ir.proofs.RefusedLaws.{form_held}
 use Rattle.from_llvm_ir.proofs.ModuleLaws.{imported_whole}
 use Rattle.from_llvm_ir.proofs.RenamedWalks.{begins_renamed, renamed_use}
@@ -100,8 +100,9 @@ module _ (m source : Module) (pairs : StructNames) (names : AreStructNames pairs
       (mapped_all IsHeldFunction IsHeldFunction (renamed_function (struct_name pairs)) (renamed_held (struct_name pairs)) (data_of m).functions (form_held (data_of m) form.functions held))
 
   -- their functions are ready where the structs were made
-  pub seen_ready : (given : List Named) (target : List Struct) → AreNamed (data_of m) given pairs → AreMade (data_of m) pairs target → All (λ (g : L.Function). IsReadyFor g target) (data_of source).functions
-  seen_ready given target named made = subst (All (λ (g : L.Function). IsReadyFor g target)) (sym seen_functions) (functions_ready (data_of m) pairs names named.all target made)
+  pub seen_ready : (given : List Named) (target : List Struct) → AreNamed (data_of m) given pairs → AreMade (data_of m) pairs target → IsForm (data_of m) → AreHeld (data_of m) → All (λ (g : L.Function). IsReadyFor g target) (data_of source).functions
+  seen_ready given target named made form held =
+      subst (All (λ (g : L.Function). IsReadyFor g target)) (sym seen_functions) (functions_ready (data_of m) pairs names named.all target made (form_held (data_of m) form.functions held) form.elements)
 
   matched_renamed : (old new : List Named) → GoesOn old new → (fs : List L.Function) (ns : List (List ℕ)) → Matched (λ (f : L.Function) (n : List ℕ). Gave old f.name n) fs ns
       → Matched (λ (f : L.Function) (n : List ℕ). Gave new f.name n) (map (renamed_function (struct_name pairs)) fs) ns
@@ -192,13 +193,17 @@ other_after names first given before d pairs S.NoMemory legal functions structs 
 -- the module that was made stands for the source under these names
 pub imported_seen : (m : Module) (given : List Named) (c : ContextData) (i : Imported) (body : BlockRef) (name : List ℕ) → IsLegalised given → BeginsWith (data_of m) given → Gave given m.name name → AreRegions (region_at c.ops) (holder_at c.blocks)
     → ((o : OpRef) → kind_at c.ops o ≡ Some K.Func → IsSymbol c.ops o) → IsFew (list_at c.lists body) × All (IsFewFunc c) (list_at c.lists body)
-    → All (λ (p : List ℕ × List ℕ). Gave given p.0 p.1) (pairs_of i.structs.items) → IsImportedTo (seen_by i (data_of m)) given (length m.functions) c i.«module».0.0 body name i.blocks → IsImported (seen_by i (data_of m)) c i
-imported_seen m given c i body name legal begins gave regions symbols few structs h =
+    → All (λ (p : List ℕ × List ℕ). Gave given p.0 p.1) (pairs_of i.structs.items) → IsImportedTo (seen_by i (data_of m)) given (length m.functions) c i.«module».0.0 body name i.blocks
+    → IsForm (data_of m) → AreHeld (data_of m) → AreNamed (data_of m) given (pairs_of i.structs.items) → AreMade (data_of m) (pairs_of i.structs.items) (structs_of c.types) → IsImported (seen_by i (data_of m)) c i
+imported_seen m given c i body name legal begins gave regions symbols few structs h form held named in_context =
     let to = struct_name (pairs_of i.structs.items) in
     let is = renamed_data to m in
     let first = subst (λ (d : ModuleData). BeginsWith d given) (sym is) (begins_renamed to (data_of m) given begins) in
     let made = subst (λ (d : ModuleData). IsImportedTo d given (length m.functions) c i.«module».0.0 body name i.blocks) (sym is) h in
-    subst (λ (d : ModuleData). IsImported d c i) is (imported_whole (renamed_store to m) given c i body name legal first gave regions symbols few structs made)
+    let pairs = pairs_of i.structs.items in
+    let ready = seen_ready m (renamed_store to m) pairs (names_given (data_of m) given pairs legal named) refl given (structs_of c.types) named in_context form held in
+    let elements = All-weaker (λ (g : L.Function). IsReadyFor g (structs_of c.types)) (HasMadeOperands (structs_of c.types)) (λ g r. r.1) (data_of (renamed_store to m)).functions ready in
+    subst (λ (d : ModuleData). IsImported d c i) is (imported_whole (renamed_store to m) given c i body name legal first gave regions symbols few structs made elements)
 
 -- what stopped the import behind the first names is why it refuses the module
 pub cause_after : (m : Module) (old start : List Named) (held before : List Struct) → old ≡ [] → HasMet old start (m.name ∷ []) → held ≡ before → (e : ConversionErr) → IsCauseAfter start held (data_of m) e → IsCause before (data_of m) e

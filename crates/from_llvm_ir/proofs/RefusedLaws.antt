@@ -1,6 +1,6 @@
--- Where no value's type is or holds one for which the dialect has none, and no constant is too wide, the types of all values of
+-- Where no value's type is or holds one for which the dialect has none, and no constant is or has in it what is lacked, the types of all values of
 -- a module of the form are held, and its constants short.
-use Rattle.std.proofs.Common.{ℕ, zero, suc, ◌≡◌, ◌≤◌, ◌∙◌, nat_le, leb-true, leb-false, refl, sym, ap, subst, Bool, true, false, List, ◌++◌, Option, Some, None, All, map, slice_get}
+use Rattle.std.proofs.Common.{ℕ, zero, suc, inl, inr, ◌≡◌, ◌≤◌, ◌∙◌, nat_le, leb-true, leb-false, refl, sym, ap, subst, Bool, true, false, List, ◌++◌, Option, Some, None, All, map, slice_get}
 use Rattle.std.specs.List.{flat_map}
 use Rattle.std.specs.Option.{option_map}
 use Rattle.std.proofs.lemmas.List.Elements.{All-cons, All-append, All-map, All-weaker}
@@ -13,11 +13,11 @@ use Rattle.kinds.specs.Held.{IsFirstClass, IsReturned, IsHeldResult, refused_of}
 use Rattle.kinds.proofs.HeldLaws.{returned_if, returned_held}
 use Rattle.kinds.proofs.RenamedLaws.{refused_held}
 use Rattle.llvm_core.specs.Data as L
-use Rattle.llvm_core.specs.Data.{Placed, Function, const_type, operand_type, placed_in}
+use Rattle.llvm_core.specs.Data.{ConstTree, IntConst, FilledConst, BytesConst, ListConst, SplatConst, PlaceholderConst, ConstTrees, NoConsts, ThenConst, Placed, Function, const_type, operand_type, placed_in}
 use Rattle.llvm_core.specs.Form as LF
-use Rattle.llvm_core.specs.Form.{IsFormFunction, IsHeldFunction, IsShortOperand, constant_type, constant_types, value_types}
+use Rattle.llvm_core.specs.Form.{IsFormFunction, IsHeldFunction, IsShortConst, AreShort, IsShortOperand, constant_type, constant_types, value_types}
 use Rattle.llvm_core.proofs.DataLemmas.{within_at}
-use Rattle.held_types.specs.Held.{AreHeld, IsRefusalOf}
+use Rattle.held_types.specs.Held.{AreHeld, HasPart, HavePart, IsRefusalOf, IsSplat, IsWide}
 use Rattle.held_types.specs.declared.held_structs.HeldErr.{HeldErr}
 use Rattle.held_types.specs.declared.held_structs.HeldErr.TheVariants as H
 use Rattle.from_consts.specs.declared.conversion_err.ConversionErr.{ConversionErr}
@@ -32,6 +32,7 @@ use Rattle.from_llvm_ir.proofs.PlaceLaws.{flat_from}
 -- so it is not refused for one
 pub held_unsupported : (d : L.ModuleData) → AreHeld d → (u : Unsupported) → IsUnsupported d u → ⊥
 held_unsupported d held (U.Ty of) h = held.types of h
+held_unsupported d held U.ScalableSplat h = held.splats h
 
 -- nor before anything is made
 pub held_late : (d : L.ModuleData) (structs : List Struct) → AreHeld d → (e : ConversionErr) → IsCause structs d e → IsEarly e → ⊥
@@ -45,6 +46,7 @@ held_late d structs held E.NoMemory h early = early
 pub held_cause : (d : L.ModuleData) (structs : List Struct) (e : HeldErr) → IsRefusalOf d e → IsCause structs d (of_held e)
 held_cause d structs (H.Lacks of) unheld = unheld
 held_cause d structs (H.TooWide width) unheld = unheld
+held_cause d structs H.ScalableSplat unheld = unheld
 held_cause d structs H.NoMemory unheld = tt
 
 -- ---- types of values that the form allows
@@ -64,13 +66,6 @@ constant_typed f (L.Constant c) zero t at = same_Some (const_type c) t at
 constant_typed f (L.Constant c) (suc k) t at = absurd (none-some t at)
 constant_typed f (L.Parameter g i) k t at = absurd (none-some t at)
 constant_typed f (L.Result n) k t at = absurd (none-some t at)
-
--- an operand of an instruction of the form is one of the form
-operand_stands : (f : Function) (b : ℕ) (t : TypeTree) (i : L.Instruction) → LF.IsFormInstruction f b t i → (j : ℕ) (o : L.Operand) → slice_get (LF.operands_of i) j ≡ Some o → LF.IsOperandOf f o
-operand_stands f b t (L.Applied r) form j o at = within_at r.operands (LF.IsOperandOf f) form.operands j o at
-operand_stands f b t (L.Phi es) form j o at =
-    let e = get_from (λ (e : L.Operand × ℕ). e.0) es j o at in
-    subst (LF.IsOperandOf f) e.2 (within_at es (λ (e : L.Operand × ℕ). LF.IsOperand f t e.0) form.0 j e.0 e.1).stands
 
 module _ (f : Function) (form : IsFormFunction f) where
   record PlacedForm (p : Placed) : Type 0 where
@@ -104,6 +99,25 @@ module _ (f : Function) (form : IsFormFunction f) where
 
 -- ---- none of them is lacked
 
+mutual
+  -- a constant that is no wide integer or splat, and has none in it
+  short_const : (c : ConstTree) → ((width : ℕ) → HasPart (IsWide width) c → ⊥) → (HasPart IsSplat c → ⊥) → IsShortConst c
+  short_const (IntConst w v) wide splat = by (nat_le w 64) refl
+    where
+      by : (b : Bool) → nat_le w 64 ≡ b → w ≤ 64
+      by true e = leb-true w 64 e
+      by false e = absurd (wide w ((v, refl), leb-false w 64 e))
+  short_const (FilledConst fill t) wide splat = tt
+  short_const (BytesConst bytes) wide splat = tt
+  short_const (ListConst t cs) wide splat = short_consts cs (λ width part. wide width (inr part)) (λ part. splat (inr part))
+  short_const (SplatConst t c) wide splat = absurd (splat (inl (t, c, refl)))
+  short_const (PlaceholderConst n t) wide splat = tt
+
+  short_consts : (cs : ConstTrees) → ((width : ℕ) → HavePart (IsWide width) cs → ⊥) → (HavePart IsSplat cs → ⊥) → AreShort cs
+  short_consts NoConsts wide splat = tt
+  short_consts (ThenConst c cs) wide splat =
+      (short_const c (λ width part. wide width (inl part)) (λ part. splat (inl part)), short_consts cs (λ width part. wide width (inr part)) (λ part. splat (inr part)))
+
 module _ (d : L.ModuleData) (held : AreHeld d) (place : ℕ) (f : Function) (at : slice_get d.functions place ≡ Some f) (form : IsFormFunction f) where
   value_held : (index : ℕ) (t : TypeTree) → slice_get (value_types f) index ≡ Some t → IsReturned t → IsHeldResult t
   value_held index t here returned = returned_held t returned (by (refused_of t) refl)
@@ -112,22 +126,11 @@ module _ (d : L.ModuleData) (held : AreHeld d) (place : ℕ) (f : Function) (at 
       by None is = is
       by (Some of) is = absurd (held.types of (record { place = place; f = f; at = at; index = index; type = t; here = here; holds = refused_held d.structs t of is }))
 
-  -- an operand is one of the form
-  operand_formed : (index : ℕ) (p : Placed) → slice_get (placed_in f) index ≡ Some p → (j : ℕ) (o : L.Operand) → slice_get (LF.operands_of p.instruction) j ≡ Some o → LF.IsOperandOf f o
-  operand_formed index p here j o used = let b = placed_form f form index p here in operand_stands f b.number p.type p.instruction b.is.instruction j o used
-
-  -- nor is a constant too wide
+  -- nor has a constant what is lacked
   operand_short : (index : ℕ) (p : Placed) → slice_get (placed_in f) index ≡ Some p → (j : ℕ) (o : L.Operand) → slice_get (LF.operands_of p.instruction) j ≡ Some o → IsShortOperand o
-  operand_short index p here j (L.Constant (L.IntConst w v)) used = by (nat_le w 64) refl
-    where
-      by : (b : Bool) → nat_le w 64 ≡ b → w ≤ 64
-      by true e = leb-true w 64 e
-      by false e = absurd (held.constants w (record { place = place; f = f; at = at; index = index; p = p; here = here; operand = j; value = v; used = used; wide = leb-false w 64 e }))
-  operand_short index p here j (L.Constant (L.FilledConst fill t)) used = tt
-  operand_short index p here j (L.Constant (L.BytesConst bytes)) used = tt
-  operand_short index p here j (L.Constant (L.ListConst t cs)) used = absurd (operand_formed index p here j (L.Constant (L.ListConst t cs)) used)
-  operand_short index p here j (L.Constant (L.SplatConst t c)) used = absurd (operand_formed index p here j (L.Constant (L.SplatConst t c)) used)
-  operand_short index p here j (L.Constant (L.PlaceholderConst n t)) used = tt
+  operand_short index p here j (L.Constant c) used =
+      short_const c (λ width part. held.constants width (record { place = place; f = f; at = at; index = index; p = p; here = here; operand = j; constant = c; used = used; part = part }))
+      (λ part. held.splats (record { place = place; f = f; at = at; index = index; p = p; here = here; operand = j; constant = c; used = used; part = part }))
   operand_short index p here j (L.Parameter g i) used = tt
   operand_short index p here j (L.Result n) used = tt
 

@@ -10,7 +10,8 @@ use mathlib.Core.Path.{fun_ext}
 use Rattle.std.proofs.lemmas.List.Concat.{flat_map-append}
 use Rattle.std.proofs.lemmas.Option.{same_Some, none-some, slice_get_within, slice_get-map, slice_get_past, get_or_from_slice_get}
 use Rattle.meaning.proofs.MatchedLaws.{matched_length, matched_at, matched_append}
-use Rattle.meaning.proofs.RenamedLaws.{filled_under, names_stay}
+use Rattle.meaning.proofs.RenamedLaws.{names_stay}
+use Rattle.meaning.proofs.TermLaws.{term_stays}
 use Rattle.support.proofs.ListLaws.{item_there, slice_get-kept, filter_from}
 use Rattle.llvm_core.specs.Form as LF
 use Rattle.llvm_core.specs.Data as L
@@ -22,7 +23,7 @@ use Rattle.dialect_core.specs.declared.ops.Value.{Value}
 use Rattle.dialect_core.specs.declared.ops.Value.TheVariants as V
 use Rattle.dialect_core.specs.declared.ops.Successor.{Successor}
 use Rattle.dialect_core.specs.Data.{DialectOp, DialectBlock, Func, RowOp, value_type}
-use Rattle.meaning.specs.Terms.{Match, filled_term, rename, rename_type}
+use Rattle.meaning.specs.Terms.{Match, rename, rename_type}
 use Rattle.meaning.specs.Machine.{Row, Block, Operand, At}
 use Rattle.meaning.specs.Setting.{Setting}
 use Rattle.meaning.specs.Pairs.{Matched, BothOrNone}
@@ -141,12 +142,7 @@ module _ (source made : Setting) (n : Head) (k : Known) (cs : List DialectBlock)
   -- ---- operands
 
   constant_stays : (c : ConstTree) → rename match (Llvm.const_term source c) ≡ Llvm.const_term source c
-  constant_stays (L.IntConst w v) = refl
-  constant_stays (L.FilledConst fill t) = filled_under match fill t ∙ ap (filled_term fill) (names_stay match named t)
-  constant_stays (L.BytesConst bytes) = refl
-  constant_stays (L.ListConst t cs) = refl
-  constant_stays (L.SplatConst t c) = refl
-  constant_stays (L.PlaceholderConst q t) = refl
+  constant_stays c = term_stays match named (Llvm.const_term source c)
 
   hoisted_apart : (i j : ℕ) (x y : DialectOp) → slice_get k.hoisted i ≡ Some x → slice_get k.hoisted j ≡ Some y → x.number ≡ y.number → i ≡ j
   hoisted_apart i j x y at_x at_y same =

@@ -6,7 +6,7 @@ use Rattle.std.proofs.lemmas.Option.{none-some, slice_get-map, slice_get_within,
 use Rattle.support.proofs.ListLaws.{all_from}
 use Rattle.llvm_core.specs.Data as L
 use Rattle.dialect_types.specs.declared.types.TypeHandle.{TypeHandle}
-use Rattle.dialect_types.specs.Trees.{type_at, type_trees}
+use Rattle.dialect_types.specs.Trees.{structs_of, type_at, type_trees}
 use Rattle.dialect_types.specs.Legalised.{Named, Gave, IsLegalised}
 use Rattle.dialect_types.proofs.LegalLaws.{one_name}
 use Rattle.dialect_core.specs.declared.numbers.OpRef.{OpRef}
@@ -15,14 +15,15 @@ use Rattle.dialect_core.specs.declared.ops.OpKind.TheVariants as K
 use Rattle.dialect_core.specs.declared.ops.OpData.{OpData}
 use Rattle.dialect_core.specs.declared.ops.BlockData.{BlockData}
 use Rattle.dialect_core.specs.Lists.{list_at}
-use Rattle.dialect_core.specs.ContextData.{ContextData, AreRegions, IsSymbol, holder_at, is_func, kind_at, region_at}
+use Rattle.dialect_core.specs.ContextData.{ContextData, AreRegions, IsPlainKindAt, IsSymbol, holder_at, is_func, kind_at, region_at}
 use Rattle.dialect_core.specs.Data.{Func, llvm_name_of, data_of, held, type_in}
-use Rattle.dialect_core.specs.Form.{IsFormFunc, IsExportable, LeadsToOwn}
+use Rattle.dialect_core.specs.Form.{IsFormFunc, IsRuled, IsExportable, LeadsToOwn}
 use Rattle.kinds.specs.Held.{IsFirstClass}
-use Rattle.dialect_core.specs.WellFormed.{HasFirstClassArgs, IsFew, IsFewFunc, IsOpenForm, IsPlainAt, IsWellFormedFunc, HasNamesApart, IsWellFormed}
+use Rattle.dialect_core.specs.WellFormed.{HasFirstClassArgs, IsFew, IsFewFunc, IsOpenForm, IsWellFormedFunc, HasNamesApart, IsWellFormed}
 use Rattle.dialect_core.proofs.HoldLemmas.{flat_stands}
 use Rattle.dialect_core.proofs.LineLemmas.{all_at}
 use Rattle.dialect_core.proofs.OwnEdgeLaws.{own_module}
+use Rattle.dialect_core.proofs.PlainLaws.{open_plain}
 use Rattle.dialect_core.proofs.TypingLaws.{module_open}
 use Rattle.meaning.specs.Code.{IsDistinctNames}
 use Rattle.from_llvm_ir.specs.declared.matching.FunctionBlocks.{FunctionBlocks}
@@ -50,7 +51,7 @@ identifiers_apart d given xs gs legal h distinct i j f g at_f at_g same =
 -- ---- the rules
 
 module _ (d : L.ModuleData) (given : List Named) (legal : IsLegalised given) (c : ContextData) (m : ℕ) (body : BlockRef) (xs : List FunctionBlocks) (h : IsBuilding c m body (data_of c m)) (functions : AreImported d given d.functions xs (data_of c m).functions)
-    (regions : AreRegions (region_at c.ops) (holder_at c.blocks)) (symbols : (o : OpRef) → kind_at c.ops o ≡ Some K.Func → IsSymbol c.ops o) (few : IsFew (list_at c.lists body) × All (IsFewFunc c) (list_at c.lists body)) where
+    (regions : AreRegions (region_at c.ops) (holder_at c.blocks)) (symbols : (o : OpRef) → kind_at c.ops o ≡ Some K.Func → IsSymbol c.ops o) (few : IsFew (list_at c.lists body) × All (IsFewFunc c) (list_at c.lists body)) (ruled : All (IsRuled (structs_of c.types)) (data_of c m).functions) where
   abbrev gs : List Func
   gs = (data_of c m).functions
 
@@ -83,18 +84,21 @@ module _ (d : L.ModuleData) (given : List Named) (legal : IsLegalised given) (c 
       let no : true ≡ false = ap is_func (same_Some K.Func K.Module is) in
       cc
 
-  plain_held : (f : OpRef) → m ≤ f.0 → kind_at c.ops f ≡ Some K.Func → All (IsPlainAt c) (held c f.0)
-  plain_held f own kind = all_from (IsPlainAt c) (held c f.0) (λ k o at.
+  plain_held : (f : OpRef) → m ≤ f.0 → kind_at c.ops f ≡ Some K.Func → All (IsPlainKindAt c.ops) (held c f.0)
+  plain_held f own kind = all_from (IsPlainKindAt c.ops) (held c f.0) (λ k o at.
       let w = flat_stands (list_at c.lists) (region_at c.ops f.0) o k at in
       let ne = away f kind w.1.0 w.0 w.1.1 in
       let le = from f.0 own w.1.0 w.0 w.1.1 in
-      all_at (IsPlainAt c) (list_at c.lists w.0) (h.apart.plain w.0 (omega (arith, ne, le)) (within f.0 w.1.0 w.0 w.1.1)) w.2.0 o w.2.1)
+      all_at (IsPlainKindAt c.ops) (list_at c.lists w.0) (h.apart.plain w.0 (omega (arith, ne, le)) (within f.0 w.1.0 w.0 w.1.1)) w.2.0 o w.2.1)
 
   forms : All IsFormFunc gs
   forms = forms_imported d given d.functions xs gs functions
 
   own_targets : All LeadsToOwn gs
   own_targets = All-weaker IsExportable LeadsToOwn (λ g fit. fit.targets) gs (exportable_imported d given d.functions xs gs functions)
+
+  open_forms : All (IsOpenForm c) gs
+  open_forms = module_open c m own_targets forms ruled
 
   lists : IsFew (held c m) × All (IsFewFunc c) (held c m)
   lists = let P : List OpRef → Type 0 = λ os. IsFew os × All (IsFewFunc c) os in subst P (sym (held_list c m body h.held)) few
@@ -113,6 +117,8 @@ module _ (d : L.ModuleData) (given : List Named) (legal : IsLegalised given) (c 
   pub well_formed : IsDistinctNames (function_names d.functions) → IsWellFormed c m
   well_formed distinct =
       own_module c regions symbols m h.held.kind (rw h.held.region (omega arith)) args funcs_alone
-      (all_from (λ (o : OpRef). All (IsPlainAt c) (held c o.0)) (held c m) (λ k o at. plain_held o (held_own c m body h.held h.own k o at) (all_at (λ (o : OpRef). kind_at c.ops o ≡ Some K.Func) (held c m) funcs_alone k o at)))
-      (All-weaker (IsOpenForm c) (IsWellFormedFunc (type_in c)) (λ g form. form.0) gs (module_open c m own_targets forms)) own_targets
+      (open_plain c regions symbols m funcs_alone
+      (all_from (λ (o : OpRef). All (IsPlainKindAt c.ops) (held c o.0)) (held c m) (λ k o at. plain_held o (held_own c m body h.held h.own k o at) (all_at (λ (o : OpRef). kind_at c.ops o ≡ Some K.Func) (held c m) funcs_alone k o at)))
+      open_forms)
+      (All-weaker (IsOpenForm c) (IsWellFormedFunc (type_in c)) (λ g form. form.0) gs open_forms) own_targets
       (identifiers_apart d given xs gs legal functions distinct) (names_apart (function_names d.functions) gs (names_imported d given d.functions xs gs functions) distinct) lists.0 lists.1

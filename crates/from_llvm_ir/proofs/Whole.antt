@@ -10,7 +10,7 @@ use Rattle.kinds.specs.Types.{types_list, count_types, params_of}
 use Rattle.kinds.specs.Held.{IsFirstClass}
 use Rattle.llvm_core.specs.Form as LF
 use Rattle.llvm_core.specs.Data as L
-use Rattle.llvm_core.specs.Data.{ConstTree, IntConst, FilledConst, BytesConst, ListConst, SplatConst, PlaceholderConst, VoidType, Placed, operand_type, placed_in}
+use Rattle.llvm_core.specs.Data.{ConstTree, VoidType, Placed, operand_type, placed_in}
 use Rattle.dialect_types.specs.Trees.{TypeTree}
 use Rattle.dialect_core.specs.declared.numbers.BlockRef.{BlockRef}
 use Rattle.dialect_core.specs.declared.ops.Value.{Value}
@@ -97,12 +97,7 @@ listed_length L.NoTypes = refl
 listed_length (L.ThenType t ts) = let e = listed_length ts in omega (arith, e)
 
 constant_result : (c : ConstTree) (o : DialectOp) → IsConstantOp c o → o.result ≡ Some (L.const_type c)
-constant_result (IntConst w v) o h = ap (λ (x : DialectOp). x.result) h
-constant_result (FilledConst fill t) o h = ap (λ (x : DialectOp). x.result) h
-constant_result (BytesConst bytes) o h = elim h [ ]
-constant_result (ListConst t cs) o h = elim h [ ]
-constant_result (SplatConst t c) o h = elim h [ ]
-constant_result (PlaceholderConst n t) o h = elim h [ ]
+constant_result c o h = ap (λ (x : DialectOp). x.result) h.2
 
 -- the number and the name of a function of the dialect
 pub record Head : Type 0 where

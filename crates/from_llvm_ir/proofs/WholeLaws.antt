@@ -6,7 +6,7 @@ use Rattle.std.proofs.lemmas.List.{get_or_past}
 use Rattle.std.proofs.lemmas.Option.{slice_get_within, slice_get_past, get_or_from_slice_get}
 use Rattle.support.proofs.ListLaws.{item_there}
 use Rattle.llvm_core.specs.Data as L
-use Rattle.llvm_core.specs.Data.{ConstTree, IntConst, FilledConst, BytesConst, ListConst, SplatConst, PlaceholderConst}
+use Rattle.llvm_core.specs.Data.{ConstTree}
 use Rattle.dialect_types.specs.Names.{IsIdentifier}
 use Rattle.dialect_types.specs.Legalised.{Gave}
 use Rattle.dialect_core.specs.Data.{DialectOp, DialectBlock}
@@ -23,17 +23,13 @@ use Rattle.from_llvm_ir.proofs.ListLaws.{matched_weaker}
 use Rattle.from_llvm_ir.proofs.NameLaws.{identifier_some}
 use Rattle.from_llvm_ir.proofs.OrderLaws.{placed, not_first, in_order_is}
 use Rattle.from_llvm_ir.proofs.Whole.{IsWhole, Head, the_func, target_at, bs_length}
+use Rattle.from_llvm_ir.proofs.RuledLaws.{ruled_of}
 use Rattle.from_llvm_ir.proofs.FormLaws.{form_of, constants_in_entry}
 use Rattle.from_llvm_ir.proofs.ExportLaws.{exportable, has_targets}
 use Rattle.from_llvm_ir.proofs.ShapeLaws.{shape_of}
 
 makes : (c : ConstTree) (o : DialectOp) → IsConstantOp c o → Makes c o
-makes (IntConst w v) o h = (ap (λ (x : DialectOp). x.kind) h, ap (λ (x : DialectOp). x.name) h)
-makes (FilledConst fill t) o h = (ap (λ (x : DialectOp). x.kind) h, ap (λ (x : DialectOp). x.result) h, ap (λ (x : DialectOp). x.name) h)
-makes (BytesConst bytes) o h = elim h [ ]
-makes (ListConst t cs) o h = elim h [ ]
-makes (SplatConst t c) o h = elim h [ ]
-makes (PlaceholderConst n t) o h = elim h [ ]
+makes c o h = (h.1 ∙ ap Some (sym (ap (λ (x : DialectOp). x.kind) h.2)), ap (λ (x : DialectOp). x.result) h.2, ap (λ (x : DialectOp). x.name) h.2)
 
 module _ (d : L.ModuleData) (n : Head) (k : Known) (cs : List DialectBlock) (h : IsWhole k cs) (x : FunctionBlocks) (inverse : IsInverse k.frame.order x.places) (p : IsPlaces (length k.frame.source.blocks) x.places) where
   abbrev g : L.Function
@@ -90,6 +86,7 @@ module _ (d : L.ModuleData) (n : Head) (k : Known) (cs : List DialectBlock) (h :
     llvm_name = refl;
     type = refl;
     form = form_of n k cs h (identifier_some n.name legal);
+    ruled = ruled_of d n k cs h uses;
     first = constants_in_entry n k cs h;
     exportable = exportable n k cs h;
     targets = has_targets n k cs h;

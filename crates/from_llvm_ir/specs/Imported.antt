@@ -7,11 +7,11 @@ use Rattle.llvm_core.specs.Data as L
 use Rattle.llvm_core.specs.declared.numbers.LLVMInstRef.{LLVMInstRef}
 use Rattle.llvm_core.specs.declared.code.LLVMValue.{LLVMValue}
 use Rattle.llvm_core.specs.declared.code.LLVMValue.TheVariants as V
-use Rattle.llvm_core.specs.Data.{ConstTree, IntConst, FilledConst, BytesConst, ListConst, SplatConst, PlaceholderConst, Placed, targets, phi_entries, placed_in}
-use Rattle.llvm_core.specs.Form.{is_phi}
+use Rattle.llvm_core.specs.Data.{ConstTree, Placed, const_type, targets, phi_entries, placed_in}
+use Rattle.kinds.specs.Structs.{Struct}
+use Rattle.llvm_core.specs.Form.{HasMadeOperands, is_phi}
 use Rattle.dialect_types.specs.Legalised.{Named, Gave, IsLegalised}
-use Rattle.dialect_types.specs.Trees.{IntType}
-use Rattle.const_attrs.specs.Trees.{IntegerAttr}
+use Rattle.dialect_types.specs.Trees.{structs_of}
 use Rattle.dialect_types.specs.declared.types.TypeHandle.{TypeHandle}
 use Rattle.dialect_core.specs.declared.numbers.OpRef.{OpRef}
 use Rattle.dialect_core.specs.declared.numbers.BlockRef.{BlockRef}
@@ -20,10 +20,10 @@ use Rattle.dialect_core.specs.declared.ops.OpKind.TheVariants.{Module, Func as F
 use Rattle.dialect_core.specs.declared.ops.OpData.{OpData}
 use Rattle.dialect_core.specs.declared.ops.BlockData.{BlockData}
 use Rattle.dialect_core.specs.Lists.{list_at}
-use Rattle.dialect_core.specs.ContextData.{ContextData, kind_at, region_at}
-use Rattle.dialect_core.specs.Data.{DialectModule, DialectBlock, DialectOp, Func, ConstantOp, FilledOp, IsTypedOp, data_of}
-use Rattle.dialect_core.specs.Form.{IsFormFunc, HasConstantsInEntry, IsExportable, HasTargets}
-use Rattle.dialect_core.specs.WellFormed.{IsPlainAt, IsWellFormed}
+use Rattle.dialect_core.specs.ContextData.{ContextData, IsPlainKindAt, kind_at, region_at}
+use Rattle.dialect_core.specs.Data.{DialectModule, DialectBlock, DialectOp, Func, Kind, IsTypedOp, data_of}
+use Rattle.dialect_core.specs.Form.{IsFormFunc, IsRuled, HasConstantsInEntry, IsExportable, HasTargets}
+use Rattle.dialect_core.specs.WellFormed.{IsWellFormed}
 use Rattle.meaning.specs.Terms.{Match}
 use Rattle.meaning.specs.Setting.{Setting}
 use Rattle.meaning.specs.Renamed.{renamed_module}
@@ -33,6 +33,7 @@ use Rattle.meaning.specs.Code.{IsDistinctNames}
 use Rattle.meaning.specs.Llvm.{used}
 use Rattle.meaning.specs.Shape.{SameShape}
 use Rattle.block_order.specs.DepthFirst.{IsDepthFirst}
+use Rattle.from_consts.specs.Constants.{kind_for}
 use Rattle.from_llvm_ir.specs.Match.{IsPlaces, place_at}
 use Rattle.from_llvm_ir.specs.Order.{IsInverse}
 use Rattle.from_llvm_ir.specs.Walks.{graph_of, HasDominatedUses}
@@ -71,14 +72,13 @@ pub data FirstUses {A : Type 0} : (uses firsts : List A) → Type 0 where
   UsedAgain : (uses firsts : List A) (x : A) → FirstUses uses firsts → IsIn firsts x → FirstUses (uses ++ x ∷ []) firsts
   UsedFirst : (uses firsts : List A) (x : A) → FirstUses uses firsts → ¬ IsIn firsts x → FirstUses (uses ++ x ∷ []) (firsts ++ x ∷ [])
 
+-- what the operation of a constant holds; the structs of the source have the identifiers of the dialect already
+abbrev pub own_kind : ConstTree → Option Kind
+own_kind c = kind_for (λ (name : List ℕ). name) c
+
 -- the operation makes the constant, and has no name
 abbrev pub Makes : ConstTree → DialectOp → Type 0
-Makes (IntConst w v) o = (o.kind ≡ ConstantOp (IntegerAttr (IntType w) v)) × (o.name ≡ None)
-Makes (FilledConst fill type) o = (o.kind ≡ FilledOp fill) × (o.result ≡ Some type) × (o.name ≡ None)
-Makes (BytesConst bytes) o = ⊥
-Makes (ListConst type elements) o = ⊥
-Makes (SplatConst type element) o = ⊥
-Makes (PlaceholderConst n type) o = ⊥
+Makes c o = (own_kind c ≡ Some o.kind) × (o.result ≡ Some (const_type c)) × (o.name ≡ None)
 
 -- ---- functions
 
@@ -156,6 +156,8 @@ pub record ImportedFunction (d : L.ModuleData) (given : List Named) (f : L.Funct
   pub llvm_name : g.llvm_name ≡ kept_name f.name g.name
   pub type : g.type ≡ f.type
   pub form : IsFormFunc g
+  -- where the elements of each constant that the source uses are those that structs ask for, it keeps the rules of constants
+  pub ruled : (structs : List Struct) → HasMadeOperands structs f → IsRuled structs g
   pub first : HasConstantsInEntry g
   pub exportable : IsExportable g
   pub targets : HasTargets g
@@ -194,7 +196,7 @@ pub record IsOwn (c : ContextData) (m : ℕ) (body : BlockRef) : Type 0 where
 -- functions alone stand in the block for functions, and neither functions nor modules in a block behind it
 pub record HasFuncsApart (c : ContextData) (body : BlockRef) : Type 0 where
   pub funcs : All (λ (o : OpRef). kind_at c.ops o ≡ Some FuncKind) (list_at c.lists body)
-  pub plain : (b : BlockRef) → body.0 < b.0 → b.0 < length c.blocks → All (IsPlainAt c) (list_at c.lists b)
+  pub plain : (b : BlockRef) → body.0 < b.0 → b.0 < length c.blocks → All (IsPlainKindAt c.ops) (list_at c.lists b)
 
 -- the context holds a module, with one block for its functions, and its data are d
 pub record IsBuilding (c : ContextData) (m : ℕ) (body : BlockRef) (d : DialectModule) : Type 0 where
@@ -239,6 +241,7 @@ pub record IsImported (d : L.ModuleData) (c : ContextData) (i : Imported) : Type
   pub name : Gave given d.name (imported_data c i).name
   pub structs : All (λ (p : List ℕ × List ℕ). Gave given p.0 p.1) (pairs_of i.structs.items)
   pub functions : AreImported d given d.functions i.blocks (imported_data c i).functions
+  pub ruled : All (IsRuled (structs_of c.types)) (imported_data c i).functions
   pub well_formed : IsDistinctNames (map (λ (f : L.Function). f.name) d.functions) → IsWellFormed c i.module.0.0
 
 -- ---- uses before a definition, of which inner contracts speak

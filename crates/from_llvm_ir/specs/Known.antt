@@ -5,22 +5,21 @@ use Rattle.support.specs.Interned.{IsDistinctList}
 use Rattle.llvm_core.specs.Module.{Module}
 use Rattle.llvm_core.specs.Parts.{IsValue}
 use Rattle.llvm_core.specs.Data as L
-use Rattle.llvm_core.specs.Data.{ConstTree, IntConst, FilledConst, BytesConst, ListConst, SplatConst, PlaceholderConst, Placed, const_type, trees_of, operand_of}
+use Rattle.llvm_core.specs.Data.{ConstTree, Placed, const_type, trees_of, operand_of}
 use Rattle.llvm_core.specs.Form.{IsFormConst, IsShortConst}
 use Rattle.kinds.specs.Held.{IsHeld}
-use Rattle.dialect_types.specs.declared.types.TypeHandle.{TypeHandle}
-use Rattle.dialect_types.specs.Trees.{TypeTree, IntType, type_at}
-use Rattle.const_attrs.specs.Trees.{IntegerAttr}
+use Rattle.dialect_types.specs.declared.types.TypeKind.{TypeKind}
+use Rattle.dialect_types.specs.Trees.{type_trees}
 use Rattle.dialect_types.specs.Legalised.{Named}
 use Rattle.dialect_core.specs.declared.ops.Value.{Value}
 use Rattle.dialect_core.specs.declared.ops.Value.TheVariants as V
 use Rattle.dialect_core.specs.declared.ops.OpKind.{OpKind}
 use Rattle.dialect_core.specs.ContextData.{is_plain}
-use Rattle.dialect_core.specs.Data.{DialectOp, Kind, ConstantOp, FilledOp, kind_of, HasKindTypesBelow}
+use Rattle.dialect_core.specs.Data.{DialectOp, Kind, kind_of, HasKindTypesBelow}
 use Rattle.meaning.specs.Pairs.{Matched}
 use Rattle.from_llvm_ir.specs.declared.values.Values.{Values}
 use Rattle.from_llvm_ir.specs.Values.{value_at}
-use Rattle.from_llvm_ir.specs.Imported.{FirstUses}
+use Rattle.from_llvm_ir.specs.Imported.{FirstUses, own_kind}
 use Rattle.from_llvm_ir.specs.Order.{ordered}
 use Rattle.from_llvm_ir.specs.Building.{Home, new_op}
 
@@ -81,20 +80,17 @@ pub record Notes (m : Module) (values : Values) (k : Known) : Type 0 where
 
 -- the operation makes the constant, and nothing else
 abbrev pub IsConstantOp : ConstTree → DialectOp → Type 0
-IsConstantOp (IntConst w v) o = o ≡ new_op o.number None (ConstantOp (IntegerAttr (IntType w) v)) [] [] (Some (IntType w))
-IsConstantOp (FilledConst fill type) o = o ≡ new_op o.number None (FilledOp fill) [] [] (Some type)
-IsConstantOp (BytesConst bytes) o = ⊥
-IsConstantOp (ListConst type elements) o = ⊥
-IsConstantOp (SplatConst type element) o = ⊥
-IsConstantOp (PlaceholderConst n type) o = ⊥
+IsConstantOp c o = (k : Kind) × (own_kind c ≡ Some k) × (o ≡ new_op o.number None k [] [] (Some (const_type c)))
 
--- an operation of that kind makes the constant, where the type of its result is that of the constant
-pub record IsMaking (c : ConstTree) (ty : TypeHandle) (kind : OpKind) : Type 0 where
+-- an operation of that kind makes the constant, over the types of a context, where its result has the type of the constant
+pub record IsMaking (ks : List TypeKind) (c : ConstTree) (kind : OpKind) : Type 0 where
   pub plain : IsTrue (is_plain kind)
-  pub types : (n : ℕ) → ty.0 < n → HasKindTypesBelow n kind
-  pub makes : (ts : List TypeTree) → type_at ts ty ≡ const_type c → (k : Kind) × (kind_of ts kind ≡ Some k) × ((n : ℕ) → IsConstantOp c (new_op n None k [] [] (Some (type_at ts ty))))
+  pub types : HasKindTypesBelow (length ks) kind
+  pub made : Kind
+  pub is : kind_of (type_trees ks) kind ≡ Some made
+  pub own : own_kind c ≡ Some made
 
--- a constant of the form that is translated: of a type that is, and where it is an integer of at most 64 bits
+-- a constant of the form that is translated, of a type that is
 pub record IsHeldConst (c : ConstTree) : Type 0 where
   pub form : IsFormConst c
   pub held : IsHeld (const_type c)

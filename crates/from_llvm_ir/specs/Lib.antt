@@ -11,6 +11,7 @@ pub mod Building
 pub mod Source
 pub mod Values
 pub mod Edges
+pub mod Attrs
 pub mod Known
 pub mod Converted
 pub mod Body

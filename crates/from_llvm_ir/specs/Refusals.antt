@@ -9,7 +9,7 @@ use Rattle.llvm_core.specs.declared.code.LLVMValue.TheVariants as V
 use Rattle.dialect_types.specs.Legalised.{Named}
 use Rattle.dialect_types.specs.declared.struct_err.StructErr.{StructErr}
 use Rattle.dialect_types.specs.declared.struct_err.StructErr.TheVariants as S
-use Rattle.held_types.specs.Held.{HasTypeWith, HasWideConst}
+use Rattle.held_types.specs.Held.{HasTypeWith, HasWideConst, HasScalableSplat}
 use Rattle.from_consts.specs.declared.conversion_err.ConversionErr.{ConversionErr}
 use Rattle.from_consts.specs.declared.conversion_err.ConversionErr.TheVariants as E
 use Rattle.from_consts.specs.declared.conversion_err.Unsupported.{Unsupported}
@@ -51,6 +51,7 @@ IsRefusalOfFunctions d E.NoMemory = Unit {0}
 -- the module has what is not translated
 abbrev pub IsUnsupported : L.ModuleData → Unsupported → Type 0
 IsUnsupported d (U.Ty of) = HasTypeWith d (RefusedType of)
+IsUnsupported d U.ScalableSplat = HasScalableSplat d
 
 -- a struct of the module has the identifier of one that a context had before, with another body; no want of memory stands inside
 abbrev pub IsStructCause : (before : List Struct) → L.ModuleData → StructErr → Type 0

@@ -3,7 +3,7 @@ use Rattle.std.specs.Prelude.{◌≡◌, ◌<◌, ◌≤◌, ℕ, List, [], Some
 use Rattle.kinds.specs.Types.{TypeTree, NamedType}
 use Rattle.kinds.specs.Structs.{Struct, Holds, struct_in}
 use Rattle.llvm_core.specs.Data.{Function}
-use Rattle.llvm_core.specs.Form.{value_types}
+use Rattle.llvm_core.specs.Form.{value_types, HasMadeOperands}
 use Rattle.llvm_core.specs.declared.numbers.LLVMType.{LLVMType}
 use Rattle.llvm_core.specs.declared.types.LLVMTypeKind.TheVariants as T
 use Rattle.llvm_core.specs.Module.{Module}
@@ -25,9 +25,10 @@ pub record GrowsTypes (old new : ContextData) : Type 0 where
 abbrev pub NamesAmong : List Struct → TypeTree → Type 0
 NamesAmong structs t = (name : List ℕ) → Holds [] (NamedType name) t → ¬ (struct_in structs name ≡ None)
 
--- so is each that the type of a value of the function names
+-- so is each that the type of a value of the function names; and the elements of each constant that is used are those that these
+-- structs ask for
 abbrev pub IsReadyFor : Function → List Struct → Type 0
-IsReadyFor g structs = All (NamesAmong structs) (value_types g)
+IsReadyFor g structs = All (NamesAmong structs) (value_types g) × HasMadeOperands structs g
 
 -- the type names the struct of that name
 abbrev pub IsNamedAs : Module → LLVMType → List ℕ → Type 0

@@ -4,8 +4,10 @@ ghost use Rattle.std.specs.Prelude.{◌≡◌, ◌<◌, ◌≤◌, ◌+◌, ◌�
 ghost use Rattle.std.specs.List.{filter_map, flat_map};
 ghost use Rattle.llvm_core.specs.Sound.{IsModule};
 ghost use Rattle.llvm_core.specs.Data.{AreApart, Block, ConstTree, Function, Placed, trees_of, const_at, const_type, operand_of, data_of};
-ghost use Rattle.dialect_types.specs.Trees.{structs_of};
+ghost use Rattle.llvm_core.specs.Elements.{HasElements};
+ghost use Rattle.dialect_types.specs.Trees.{structs_of, type_at, type_trees};
 ghost use Rattle.dialect_core.specs.Data.{DialectBlock, DialectOp};
+ghost use Rattle.from_llvm_ir.specs.Attrs.{IsTaken};
 ghost use Rattle.from_llvm_ir.specs.Imported.{constant_in, constants_in, rest_of};
 ghost use Rattle.from_llvm_ir.specs.Building.{Home, IsOpen, with_ops};
 ghost use Rattle.from_llvm_ir.specs.Source.{IsSource, IsBlockOf, IsSite, IsUsed, AreEntries};
@@ -14,12 +16,12 @@ ghost use Rattle.from_llvm_ir.specs.Known.{Frame, IsConstantOp, IsHeldConst, IsM
 ghost use Rattle.from_llvm_ir.specs.Types.{IsReadyFor, NamesAmong};
 ghost use Rattle.from_llvm_ir.specs.Body.{IsFramed, IsHoisting, all_uses, uses_of_inst};
 
+use crate::attrs::attr;
 use crate::building::add_op;
 use crate::entries::{Entries, used_values};
 use crate::parts::is_phi;
 use crate::types::import_plain;
 use crate::values::Values;
-use const_attrs::const_attr::ConstAttr;
 use dialect_core::context::Context;
 use dialect_core::numbers::{BlockRef, OpRef};
 use dialect_core::ops::{OpKind, Value};
@@ -34,20 +36,25 @@ use std::sync::ledger::Ledger;
 use support::items::Items;
 use support::short_list::ShortList;
 
-/// The kind of an operation that makes a constant with a result of that type: a line for each kind of constant.
-fn constant_kind(source: &Source<'_>, c: LLVMConst, ty: TypeHandle) -> OpKind
+/// The kind of an operation that makes a constant of that type: zero, undef or poison by the type of its result, and an attribute
+/// of any other.
+fn constant_kind(
+    alloc: Global,
+    ctx: &Context,
+    source: &Source<'_>,
+    c: LLVMConst,
+    ty: TypeHandle,
+) -> Result<OpKind, AllocError>
     requires within { c.0 < length source.now.consts }
-    requires held { IsHeldConst (const_at (trees_of source.now).consts c) }
-    ensures { IsMaking (const_at (trees_of source.now).consts c) ty result }
+    requires taken { IsTaken (structs_of ctx.now.types) (const_at (trees_of source.now).consts c) }
+    requires below { ty.0 < length ctx.now.types }
+    requires ty { type_at (type_trees ctx.now.types) ty ≡ const_type (const_at (trees_of source.now).consts c) }
+    ensures { IfOk result (IsMaking ctx.now.types (const_at (trees_of source.now).consts c)) }
 {
-    match source.const_kind(c) {
-        LLVMConstKind::Int(_, value) => OpKind::Constant(ConstAttr::Integer(ty, *value as u64)),
-        LLVMConstKind::Filled(fill, _) => OpKind::Filled(*fill),
-        LLVMConstKind::Bytes(..) => unreachable!(),
-        LLVMConstKind::List(..) => unreachable!(),
-        LLVMConstKind::Splat(..) => unreachable!(),
-        LLVMConstKind::Placeholder(..) => unreachable!(),
+    if let LLVMConstKind::Filled(fill, _) = source.const_kind(c) {
+        return Ok(OpKind::Filled(*fill));
     }
+    OpKind::constant(alloc, attr(alloc, ctx.types(), source, c, ty)?)
 }
 
 /// A new last operation of the block that makes a constant.
@@ -62,6 +69,7 @@ fn add_constant<L: Ledger>(
     requires sound { IsModule source.now }
     requires within { c.0 < length source.now.consts }
     requires held { IsHeldConst (const_at (trees_of source.now).consts c) }
+    requires elements { HasElements (structs_of ctx.old.types) (const_at (trees_of source.now).consts c) }
     requires ready { NamesAmong (structs_of ctx.old.types) (const_type (const_at (trees_of source.now).consts c)) }
     requires open { (h : Home) × (base : ℕ) × (left : List DialectBlock) × (now : DialectBlock) × (right : List DialectBlock) × IsOpen h base ctx.old block left now right }
     ensures made { IfOk result (λ o. (h : Home) → (base : ℕ) → (left : List DialectBlock) → (now : DialectBlock) → (right : List DialectBlock) → IsOpen h base ctx.old block left now right
@@ -72,7 +80,7 @@ fn add_constant<L: Ledger>(
 {
     let ty = source.type_of(LLVMValue::Const(c));
     let made = import_plain(alloc, ctx, source, ty)?;
-    let kind = constant_kind(source, c, made);
+    let kind = constant_kind(alloc, ctx, source, c, made)?;
     let operands = ShortList::zero();
     let successors = Items::new(alloc);
     add_op(
@@ -101,6 +109,7 @@ fn hoist_constant<L: Ledger>(
     requires apart { AreApart source.now }
     requires within { c.0 < length source.now.consts }
     requires held { IsHeldConst (const_at (trees_of source.now).consts c) }
+    requires elements { HasElements (structs_of ctx.old.types) (const_at (trees_of source.now).consts c) }
     requires ready { NamesAmong (structs_of ctx.old.types) (const_type (const_at (trees_of source.now).consts c)) }
     requires hoisting { (fr : Frame) × (uses : List ConstTree) × IsHoisting fr source.now ctx.old values.old uses × (block.0 ≡ fr.base) }
     ensures hoisting { OnOk result ((fr : Frame) → (uses : List ConstTree) → IsHoisting fr source.now ctx.old values.old uses → block.0 ≡ fr.base

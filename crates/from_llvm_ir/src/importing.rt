@@ -239,10 +239,10 @@ fn make_room(ctx: &mut Context, source: &LLVMModule)
 /// The context may be any. All that it held stays, whatever is answered: its types, its operations and where they stand,
 /// its blocks and what they list. Where its numbers of types are there, they stay there, and each of its modules has the
 /// data that it had. After a refusal the context may hold more operations, blocks and types.
-/// Refuses a module that has values whose type is, or holds, one for which the dialect has none, `Unsupported`, or that uses an
-/// integer constant of more than 64 bits, `IntConstTooWide`, and leaves the context as it was; a struct whose identifier the
-/// context has with another body, `Struct`; and a function that uses the result of an instruction where it is not defined:
-/// `UndefinedValue`.
+/// Refuses a module that has values whose type is, or holds, one for which the dialect has none, `Unsupported`, or that uses a
+/// constant that is, or is made of, an integer of more than 64 bits, `IntConstTooWide`, or a splat of a scalable vector,
+/// `Unsupported(ScalableSplat)`, and leaves the context as it was; a struct whose identifier the context has with another body,
+/// `Struct`; and a function that uses the result of an instruction where it is not defined: `UndefinedValue`.
 pub fn convert_module(
     alloc: Global,
     ctx: &mut Context,

@@ -2,6 +2,7 @@
 #![tactic(auto)]
 
 mod alone;
+mod attrs;
 mod building;
 mod constants;
 mod entries;

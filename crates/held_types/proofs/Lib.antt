@@ -4,4 +4,4 @@ pub mod WalkLaws
 pub mod InsideLaws
 pub mod PlacedLaws
 pub mod ValueLaws
-pub mod WideLaws
+pub mod LackLaws

@@ -267,4 +267,5 @@ held_by_walk m a c empty h = record {
 pub unheld_by : (m : Module) (W : TypeTree → Type 0) → IsWithin W (HasTypeWith (data_of m)) → (e : HeldErr) → IsCause W e → IsRefusalOf (data_of m) e
 unheld_by m W to (E.Lacks of) c = to (RefusedType of) tt c
 unheld_by m W to (E.TooWide width) c = absurd c
+unheld_by m W to E.ScalableSplat c = absurd c
 unheld_by m W to E.NoMemory c = tt

@@ -50,6 +50,7 @@ passed_on r e Q h q = let p = err_from_is_err_and r h in let at : R.Err e ≡ r 
 pub cause_as : (W V : TypeTree → Type 0) → IsWithin W V → (e : HeldErr) → IsCause W e → IsCause V e
 cause_as W V to (E.Lacks of) c = to (RefusedType of) tt c
 cause_as W V to (E.TooWide width) c = c
+cause_as W V to E.ScalableSplat c = c
 cause_as W V to E.NoMemory c = tt
 
 pub err_as : {T : Type 0} (W V : TypeTree → Type 0) (r : R.Result T HeldErr) → IsWithin W V → IfErr r (IsCause W) → IfErr r (IsCause V)

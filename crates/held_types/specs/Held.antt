@@ -1,11 +1,10 @@
--- What the values of a module hold: types for which the dialect has none, integer constants for which it has no room, and
--- structs with a name.
-use Rattle.std.specs.Prelude.{ℕ, ◌≡◌, ◌<◌, List, Some, slice_get}
+-- What the values of a module hold: types that the dialect lacks, constants that no import gives an attribute, and structs with a name.
+use Rattle.std.specs.Prelude.{ℕ, ◌≡◌, ◌<◌, ◌⊎◌, List, Some, slice_get}
 use Rattle.kinds.specs.declared.types.OtherType.{OtherType}
 use Rattle.kinds.specs.Types.{TypeTree, RefusedType, NamedType, types_list}
 use Rattle.kinds.specs.Structs.{Struct, StructBody, Holds, struct_in}
 use Rattle.llvm_core.specs.declared.numbers.LLVMStruct.{LLVMStruct}
-use Rattle.llvm_core.specs.Data.{Placed, Function, ModuleData, Constant, IntConst, placed_in}
+use Rattle.llvm_core.specs.Data.{ConstTree, IntConst, FilledConst, BytesConst, ListConst, SplatConst, PlaceholderConst, ConstTrees, NoConsts, ThenConst, Placed, Function, ModuleData, Constant, placed_in}
 use Rattle.llvm_core.specs.Form.{operands_of, value_types}
 use Rattle.held_types.specs.declared.held_structs.HeldErr.{HeldErr}
 use Rattle.held_types.specs.declared.held_structs.HeldErr.TheVariants as E
@@ -21,8 +20,32 @@ pub record HasTypeWith (d : ModuleData) (u : TypeTree) : Type 0 where
   pub here : slice_get (value_types f) index ≡ Some type
   pub holds : Holds d.structs u type
 
--- an instruction of a function of the module uses an integer constant of that width, which is more than 64
-pub record HasWideConst (d : ModuleData) (width : ℕ) : Type 0 where
+-- ---- constants
+
+abbrev mutual
+  -- it holds of the constant, or of one that it is made of
+  pub HasPart : (ConstTree → Type 0) → ConstTree → Type 0
+  HasPart P (IntConst w v) = P (IntConst w v)
+  HasPart P (FilledConst fill type) = P (FilledConst fill type)
+  HasPart P (BytesConst bytes) = P (BytesConst bytes)
+  HasPart P (ListConst type elements) = P (ListConst type elements) ⊎ HavePart P elements
+  HasPart P (SplatConst type element) = P (SplatConst type element) ⊎ HasPart P element
+  HasPart P (PlaceholderConst n type) = P (PlaceholderConst n type)
+
+  pub HavePart : (ConstTree → Type 0) → ConstTrees → Type 0
+  HavePart P NoConsts = ⊥
+  HavePart P (ThenConst c cs) = HasPart P c ⊎ HavePart P cs
+
+-- an integer of that width, which is more than 64
+abbrev pub IsWide : (width : ℕ) → ConstTree → Type 0
+IsWide width c = ((value : ℕ) × (c ≡ IntConst width value)) × (64 < width)
+
+-- a splat of a scalable vector
+abbrev pub IsSplat : ConstTree → Type 0
+IsSplat c = (type : TypeTree) × (element : ConstTree) × (c ≡ SplatConst type element)
+
+-- an instruction of a function of the module uses a constant that has such a part
+pub record UsesConst (d : ModuleData) (P : ConstTree → Type 0) : Type 0 where
   pub place : ℕ
   pub f : Function
   pub at : slice_get d.functions place ≡ Some f
@@ -30,20 +53,30 @@ pub record HasWideConst (d : ModuleData) (width : ℕ) : Type 0 where
   pub p : Placed
   pub here : slice_get (placed_in f) index ≡ Some p
   pub operand : ℕ
-  pub value : ℕ
-  pub used : slice_get (operands_of p.instruction) operand ≡ Some (Constant (IntConst width value))
-  pub wide : 64 < width
+  pub constant : ConstTree
+  pub used : slice_get (operands_of p.instruction) operand ≡ Some (Constant constant)
+  pub part : HasPart P constant
 
--- a module that is translated: no value's type is or holds one for which the dialect has none, and no integer constant that an
--- instruction uses has more than 64 bits
+-- one that is, or has in it, such an integer
+abbrev pub HasWideConst : ModuleData → (width : ℕ) → Type 0
+HasWideConst d width = UsesConst d (IsWide width)
+
+-- one that is, or has in it, a splat of a scalable vector
+abbrev pub HasScalableSplat : ModuleData → Type 0
+HasScalableSplat d = UsesConst d IsSplat
+
+-- a module that is translated: no value's type is or holds one for which the dialect has none, and no constant that an
+-- instruction uses is or has in it an integer of more than 64 bits or a splat of a scalable vector
 pub record AreHeld (d : ModuleData) : Type 0 where
   pub types : (of : OtherType) → ¬ HasTypeWith d (RefusedType of)
   pub constants : (width : ℕ) → ¬ HasWideConst d width
+  pub splats : ¬ HasScalableSplat d
 
 -- why a module is not translated; want of memory needs no reason
 abbrev pub IsRefusalOf : ModuleData → HeldErr → Type 0
 IsRefusalOf d (E.Lacks of) = HasTypeWith d (RefusedType of)
 IsRefusalOf d (E.TooWide width) = HasWideConst d width
+IsRefusalOf d E.ScalableSplat = HasScalableSplat d
 IsRefusalOf d E.NoMemory = Unit {0}
 
 -- the number is that of a struct of the name, the first one where there are more

@@ -3,4 +3,4 @@ pub mod Held
 pub mod Table
 pub mod Walk
 pub mod Values
-pub mod Wide
+pub mod Lacks

@@ -74,4 +74,5 @@ pub record Walked (m : Module) (W : TypeTree → Type 0) (old new : Walk) : Type
 abbrev pub IsCause : (TypeTree → Type 0) → HeldErr → Type 0
 IsCause W (E.Lacks of) = W (RefusedType of)
 IsCause W (E.TooWide width) = ⊥
+IsCause W E.ScalableSplat = ⊥
 IsCause W E.NoMemory = Unit {0}

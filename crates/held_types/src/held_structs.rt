@@ -1,20 +1,22 @@
 //! The structs that the types of a module's values hold, unless one holds a type for which the dialect has none, or a constant
-//! is too wide for it.
+//! is one that no import gives an attribute.
 
 ghost use Rattle.std.specs.Prelude.{◌≡◌, ◌<◌, IfErr, IfOk, OnOk, length};
 ghost use Rattle.llvm_core.specs.Sound.{IsModule};
 ghost use Rattle.llvm_core.specs.Data.{data_of};
 ghost use Rattle.llvm_core.specs.Form.{IsForm};
-ghost use Rattle.held_types.specs.Held.{AreHeld, AreHeldStructs, IsRefusalOf};
+ghost use Rattle.held_types.specs.Held.{AreHeld, AreHeldStructs, IsRefusalOf, UsesConst};
+ghost use Rattle.held_types.specs.Lacks.{IsLacked};
+ghost use Rattle.held_types.specs.declared.lacks.Lack.{Lack};
 ghost use Rattle.held_types.specs.Table.{IsTable};
 ghost use Rattle.held_types.specs.Values.{IsInResult, IsInResults, IsInSignature, IsInSignatures};
 ghost use Rattle.held_types.specs.Walk.{IsCause, IsWalk, Walked};
 ghost use Rattle.held_types.specs.declared.held_structs.HeldErr.TheVariants as reasons;
 
 use crate::constants::walk_constants;
+use crate::lacks::{Lack, used_lack};
 use crate::table::{Table, table_of};
 use crate::walk::{Walk, start, visit, visit_all};
-use crate::wide::too_wide;
 use kinds::types::{OtherType, deepest};
 use llvm_core::code::LLVMValue;
 use llvm_core::module::LLVMModule;
@@ -29,9 +31,13 @@ pub enum HeldErr {
     /// The type of a value of a function is, or holds, one for which the dialect has none.
     #[error("Lacks")]
     Lacks(OtherType),
-    /// An instruction uses an integer constant of this width, which is more than the 64 bits that an attribute holds.
+    /// An instruction uses a constant that is, or has in it, an integer of this width, which is more than the 64 bits that an attribute
+    /// holds.
     #[error("TooWide")]
     TooWide(u32),
+    /// An instruction uses a constant that is, or has in it, a splat of a scalable vector.
+    #[error("ScalableSplat")]
+    ScalableSplat,
     /// Memory is wanting.
     #[error("NoMemory")]
     NoMemory,
@@ -125,9 +131,22 @@ fn walk_results(m: &LLVMModule, table: &Table<'_>, walk: &mut Walk) -> Result<()
     Ok(())
 }
 
+/// Refuses a constant that no import gives an attribute.
+fn refuse_lacks(alloc: Global, source: &LLVMModule) -> Result<(), HeldErr>
+    requires sound { IsModule source.now }
+    ensures held { OnOk result ((l : Lack) → ¬ UsesConst (data_of source.now) (IsLacked l)) }
+    ensures cause { IfErr result (IsRefusalOf (data_of source.now)) }
+{
+    match used_lack(alloc, source)? {
+        Some(Lack::TooWide(width)) => Err(HeldErr::TooWide(width)),
+        Some(Lack::ScalableSplat) => Err(HeldErr::ScalableSplat),
+        None => Ok(()),
+    }
+}
+
 /// The structs with a name that the types of a module's values hold, each behind those that its fields hold.
-/// Refuses a module of which such a type is, or holds, one for which the dialect has none, and one that uses an integer constant
-/// of more than 64 bits.
+/// Refuses a module of which such a type is, or holds, one for which the dialect has none, and one that uses a constant that is, or
+/// has in it, an integer of more than 64 bits or a splat of a scalable vector.
 pub fn held_structs(alloc: Global, source: &LLVMModule) -> Result<Vec<LLVMStruct>, HeldErr>
     requires form { IsForm (data_of source.now) }
     ensures held { OnOk result (AreHeld (data_of source.now)) }
@@ -136,9 +155,7 @@ pub fn held_structs(alloc: Global, source: &LLVMModule) -> Result<Vec<LLVMStruct
 {
     let table = table_of(alloc, source)?;
     let mut walk = start(alloc, source)?;
-    if let Some(width) = too_wide(source) {
-        return Err(HeldErr::TooWide(width));
-    }
+    refuse_lacks(alloc, source)?;
     walk_signatures(source, &table, &mut walk)?;
     walk_results(source, &table, &mut walk)?;
     walk_constants(source, &table, &mut walk)?;

@@ -3,6 +3,6 @@
 
 mod constants;
 pub mod held_structs;
+pub mod lacks;
 pub mod table;
 mod walk;
-mod wide;

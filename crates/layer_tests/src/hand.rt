@@ -336,6 +336,7 @@ fn place<L: Ledger>(
 }
 
 fn constant<L: Ledger>(
+    alloc: Global,
     ctx: &mut Context,
     root: ModuleOp,
     at: At,
@@ -350,7 +351,9 @@ fn constant<L: Ledger>(
 {
     let block = block(ctx, root, at)?;
     let ty = int(ctx, width)?;
-    let kind = OpKind::Constant(ConstAttr::Integer(ty, value));
+    let Ok(kind) = OpKind::constant(alloc, ConstAttr::Integer(ty, value)) else {
+        return None;
+    };
     place(ctx, block, kind, &[], &[], Some(ty), steps)
 }
 
@@ -474,7 +477,9 @@ fn take<L: Ledger>(
         Step::Label(number, label) => add_label(alloc, ctx, root, *number, label),
         Step::Func(name, linkage) => add_func(alloc, ctx, root, name, *linkage, steps),
         Step::Argument(at) => add_argument(ctx, root, *at),
-        Step::Constant(at, width, value) => constant(ctx, root, *at, *width, *value, steps),
+        Step::Constant(at, width, value) => {
+            constant(alloc, ctx, root, *at, *width, *value, steps)
+        }
         Step::Double(at, operand) => double(ctx, root, *at, *operand, steps),
         Step::Named(op, name) => set_name(alloc, ctx, root, *op, name),
         Step::Br(at, to) => end(alloc, ctx, root, *at, None, &[*to], steps),

@@ -1,4 +1,4 @@
-//! The traces of a loop that swaps, of a function of operations on integers and of one of values of structs with a name, each of
+//! The traces of a loop that swaps, of functions of operations on integers, of constants and of values of structs with a name, each of
 //! a function of LLVM and of the dialect function that stands for it; and that of a dialect function that uses a value of another.
 
 ghost use Rattle.std.specs.Prelude.{◌≡◌, ◌<◌, All, IfOk, IfSome, length};
@@ -16,6 +16,7 @@ use crate::words::word;
 use dialect_core::context::Context;
 use dialect_core::linkage::LinkageAttr;
 use dialect_core::numbers::{FuncOp, ModuleOp};
+use kinds::fill::Fill;
 use kinds::op::Op;
 use ll_text::read::read_ll;
 use llvm_core::module::LLVMModule;
@@ -46,7 +47,8 @@ exit:
 const CHOICES: &[u32] = &[0, 0, 0, 1];
 
 /// What both traces show, `^` a block that is entered, and behind an event the types of its operands, and then these: `%` a
-/// parameter, `!` the answer of the event of that number, or the word of a silent operation.
+/// parameter, `!` the answer of the event of that number, `#` an integer, `[` a list of so many elements, `splat`, the word of a
+/// fill, or that of a silent operation.
 /// At the third turn the first phi holds the first parameter again.
 const WANT: &str = "^0 br ^1 cond_br i1 %2 ^1 cond_br i1 %2 ^1 cond_br i1 %2 ^2 ret i32 %0";
 
@@ -70,6 +72,18 @@ const OPERATIONS: &str = "define i8 @f(i32 %a, i32 %b, i1 %c) {
 const SHOWN: &str =
     "^0 udiv i32 i32 %0 %1 srem i32 i32 !0 %1 mul i32 i32 sub %0 freeze i8 trunc zext i8 !3 \
 xor i32 i32 !4 !0 select i1 i32 i32 %2 !5 %0 ret i8 trunc";
+
+/// Constants as operands: an integer, zero and undef.
+const CONSTANTS: &str = "define i32 @f(i32 %a) {
+  %q = udiv i32 %a, 7
+  %z = freeze { i8, [2 x i16] } zeroinitializer
+  %u = freeze i32 undef
+  ret i32 %q
+}
+";
+
+/// What both of its traces show.
+const CONSTANTS_SHOWN: &str = "^0 udiv i32 i32 %0 #7 freeze other zero freeze i32 undef ret i32 !0";
 
 /// Values of structs with a name, of which one needs another name.
 const STRUCTS: &str = "%S = type { i8, %T.1 } %T.1 = type opaque
@@ -131,6 +145,14 @@ fn op_word(op: Op) -> &'static str {
     }
 }
 
+fn fill_word(fill: Fill) -> &'static str {
+    match fill {
+        Fill::Zero => "zero",
+        Fill::Undef => "undef",
+        Fill::Poison => "poison",
+    }
+}
+
 /// The word of a type; that of a struct is its name.
 fn type_word(kind: &LLVMTypeKind) -> &str {
     match kind {
@@ -160,9 +182,18 @@ fn is_term(node: &TermNode, word: &str) -> bool {
     match node {
         TermNode::Param(at) => is_number(word, '%', *at),
         TermNode::Answer(event) => is_number(word, '!', *event),
-        TermNode::Expr { op, .. } => word == op_word(*op),
         TermNode::Unset => word == "unset",
-        _ => false,
+        TermNode::Int(_, value) => match u32::try_from(*value) {
+            Ok(value) => is_number(word, '#', value),
+            Err(_) => false,
+        },
+        TermNode::Filled(fill, _) => word == fill_word(*fill),
+        TermNode::ListOf(_, elements) => match u32::try_from(elements.as_slice().len()) {
+            Ok(count) => is_number(word, '[', count),
+            Err(_) => false,
+        },
+        TermNode::SplatOf(..) => word == "splat",
+        TermNode::Expr { op, .. } => word == op_word(*op),
     }
 }
 
@@ -294,6 +325,13 @@ fn both_sides_swap(rt: HostRuntime) {
 #[test]
 fn both_sides_show_operations(rt: HostRuntime) {
     let (source, dialect) = both_show(rt.alloc(), OPERATIONS, SHOWN, SHOWN);
+    assert!(rt; source, "the source");
+    assert!(rt; dialect, "the dialect");
+}
+
+#[test]
+fn both_sides_show_constants(rt: HostRuntime) {
+    let (source, dialect) = both_show(rt.alloc(), CONSTANTS, CONSTANTS_SHOWN, CONSTANTS_SHOWN);
     assert!(rt; source, "the source");
     assert!(rt; dialect, "the dialect");
 }

@@ -29,10 +29,9 @@ use Rattle.llvm_core.specs.Sound.{IsModule}
 use Rattle.llvm_core.proofs.DataLemmas.{function_tree_of}
 use Rattle.ll_lines.specs.declared.lines.Function as code_function
 use Rattle.ll_lines.specs.Lines as L
-use Rattle.ll_bodies.specs.AddingViews.{GivesBody}
-use Rattle.ll_bodies.specs.Meaning.{function_data}
+use Rattle.ll_bodies.specs.AddingViews.{GivesBody, data_over}
 use Rattle.ll_literals.specs.Names.{symbol_name}
-use Rattle.ll_lines.specs.Views.{function_view}
+use Rattle.ll_lines.specs.declared.lines.ConstLine.{ConstLine}
 use Rattle.ll_bodies.specs.FunctionViews.{IsNext}
 use Rattle.llvm_core.specs.Bodies.{with_blocks}
 use Rattle.llvm_core.proofs.CallLemmas.{at_number, at_other}
@@ -203,16 +202,16 @@ next_of m a n f ty x r types blocks insts kind y =
     }
 
 -- a function that is declared and then gets its body is the one that is said
-pub function_added : (bytes : List ℕ) (f : ℕ) (name : List ℕ) (x : code_function.Function) (m a n : Module) → f ≡ length m.functions → a ≡ record m { functions = a.functions } → symbol_name (text_of bytes x.name) ≡ Some name
-    → data_of a ≡ D.with_function (data_of m) (function_with bytes (trees_of m) (length m.functions) name x []) → (g : GivesBody bytes f x a n)
-    → (function_data (length m.functions) (length m.blocks) (length m.insts) (function_view bytes (trees_of m) x) ≡ Some (function_with bytes (trees_of m) (length m.functions) name x g.blocks))
+pub function_added : (bytes : List ℕ) (lines : List ConstLine) (f : ℕ) (name : List ℕ) (x : code_function.Function) (m a n : Module) → f ≡ length m.functions → a ≡ record m { functions = a.functions } → symbol_name (text_of bytes x.name) ≡ Some name
+    → data_of a ≡ D.with_function (data_of m) (function_with bytes (trees_of m) (length m.functions) name x []) → (g : GivesBody bytes lines f x a n)
+    → (data_over bytes lines m (length m.functions) (length m.blocks) (length m.insts) x ≡ Some (function_with bytes (trees_of m) (length m.functions) name x g.blocks))
     × (data_of n ≡ D.with_function (data_of m) (function_with bytes (trees_of m) (length m.functions) name x g.blocks))
-function_added bytes f name x m a n number rest called h g =
+function_added bytes lines f name x m a n number rest called h g =
     let bs = g.blocks in
-    let Is : Module → Type 0 = λ k. function_data f (length k.blocks) (length k.insts) (function_view bytes (trees_of k) x) ≡ option_map (λ nm. function_with bytes (trees_of k) f nm x bs) (symbol_name (text_of bytes x.name)) in
-    let here : function_data f (length m.blocks) (length m.insts) (function_view bytes (trees_of m) x) ≡ option_map (λ nm. function_with bytes (trees_of m) f nm x bs) (symbol_name (text_of bytes x.name)) = subst Is rest g.is in
+    let Is : Module → Type 0 = λ k. data_over bytes lines k f (length k.blocks) (length k.insts) x ≡ option_map (λ nm. function_with bytes (trees_of k) f nm x bs) (symbol_name (text_of bytes x.name)) in
+    let here : data_over bytes lines m f (length m.blocks) (length m.insts) x ≡ option_map (λ nm. function_with bytes (trees_of m) f nm x bs) (symbol_name (text_of bytes x.name)) = subst Is rest g.is in
     let one = here ∙ ap (option_map (λ nm. function_with bytes (trees_of m) f nm x bs)) called in (
-      subst (λ (k : ℕ). function_data k (length m.blocks) (length m.insts) (function_view bytes (trees_of m) x) ≡ Some (function_with bytes (trees_of m) k name x bs)) number one,
+      subst (λ (k : ℕ). data_over bytes lines m k (length m.blocks) (length m.insts) x ≡ Some (function_with bytes (trees_of m) k name x bs)) number one,
       g.given ∙ ap (λ (d : ModuleData). with_blocks d f bs) h
           ∙ ap (λ (k : ℕ). with_blocks (D.with_function (data_of m) (function_with bytes (trees_of m) (length m.functions) name x [])) k bs) number
           ∙ body_added (data_of m) (function_with bytes (trees_of m) (length m.functions) name x []) (numbers_below m) bs refl,

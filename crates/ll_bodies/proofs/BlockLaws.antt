@@ -35,40 +35,40 @@ behind_one parts at l lines h is = rw is (record { there = one_part parts at 1 (
 pub behind_more : (parts : List Part) (at next : ℕ) (l : code_line.Line) (old lines : List Part) → slice_get parts at ≡ Some (Does l) → next ≡ suc at → IsBehind parts next old → lines ≡ Does l ∷ old → IsBehind parts at lines
 behind_more parts at next l old lines h n b is = rw is (record { there = with_part parts at next (suc (length old)) (Does l) old h n refl b; begins = tt })
 
-module _ (bytes : List ℕ) (t : Trees) where
+module _ (bytes : List ℕ) (t : Trees) (table : List L.SaidConst) where
   -- a line that ends a block
-  pub put_ended : (l : code_line.Line) (old lines : List Part) (bs new : List SaidBlock) → BeginsWithLine old → ends_block (line_view bytes t l) ≡ true
-      → new ≡ unlabelled (lines_view bytes t old) bs → lines ≡ Does l ∷ [] → put_line (line_view bytes t l) (lines_view bytes t old, bs) ≡ Some (lines_view bytes t lines, new)
+  pub put_ended : (l : code_line.Line) (old lines : List Part) (bs new : List SaidBlock) → BeginsWithLine old → ends_block (line_view bytes t table l) ≡ true
+      → new ≡ unlabelled (lines_view bytes t table old) bs → lines ≡ Does l ∷ [] → put_line (line_view bytes t table l) (lines_view bytes t table old, bs) ≡ Some (lines_view bytes t table lines, new)
   put_ended l [] lines bs new b e n is = rw (e, n, is) refl
   put_ended l (Does m ∷ old) lines bs new b e n is = rw (e, n, is) refl
   put_ended l (Label m ∷ old) lines bs new b e n is = absurd b
 
   -- a line that ends none, with a line behind it
-  pub put_more : (l : code_line.Line) (old lines : List Part) (bs : List SaidBlock) → BeginsWithLine old → ends_block (line_view bytes t l) ≡ false
-      → length old ≢ 0 → lines ≡ Does l ∷ old → put_line (line_view bytes t l) (lines_view bytes t old, bs) ≡ Some (lines_view bytes t lines, bs)
+  pub put_more : (l : code_line.Line) (old lines : List Part) (bs : List SaidBlock) → BeginsWithLine old → ends_block (line_view bytes t table l) ≡ false
+      → length old ≢ 0 → lines ≡ Does l ∷ old → put_line (line_view bytes t table l) (lines_view bytes t table old, bs) ≡ Some (lines_view bytes t table lines, bs)
   put_more l [] lines bs b e some is = absurd (some refl)
   put_more l (Does m ∷ old) lines bs b e some is = rw (e, is) refl
   put_more l (Label m ∷ old) lines bs b e some is = absurd b
 
   -- a part before what is cut
   pub cut_line : (parts : List Part) (at : ℕ) (l : code_line.Line) (x : List L.Line × List SaidBlock) (y : List L.Line × List SaidBlock) → slice_get parts at ≡ Some (Does l)
-      → cut (map (part_view bytes t) (drop (suc at) parts)) ≡ Some x → put_line (line_view bytes t l) x ≡ Some y → cut (map (part_view bytes t) (drop at parts)) ≡ Some y
-  cut_line parts at l x y h c p = rw (drop_at parts at (Does l) h) (ap (λ o. o >>= put_line (line_view bytes t l)) c ∙ p)
+      → cut (map (part_view bytes t table) (drop (suc at) parts)) ≡ Some x → put_line (line_view bytes t table l) x ≡ Some y → cut (map (part_view bytes t table) (drop at parts)) ≡ Some y
+  cut_line parts at l x y h c p = rw (drop_at parts at (Does l) h) (ap (λ o. o >>= put_line (line_view bytes t table l)) c ∙ p)
 
   pub cut_label : (parts : List Part) (at : ℕ) (n : Name) (x y : List L.Line × List SaidBlock) → slice_get parts at ≡ Some (Label n)
-      → cut (map (part_view bytes t) (drop (suc at) parts)) ≡ Some x → put_label (text_of bytes n) x ≡ Some y → cut (map (part_view bytes t) (drop at parts)) ≡ Some y
+      → cut (map (part_view bytes t table) (drop (suc at) parts)) ≡ Some x → put_label (text_of bytes n) x ≡ Some y → cut (map (part_view bytes t table) (drop at parts)) ≡ Some y
   cut_label parts at n x y h c p = rw (drop_at parts at (Label n) h) (ap (λ o. o >>= put_label (text_of bytes n)) c ∙ p)
 
   -- what cannot be cut from a place on cannot be cut
   pub uncut_line : (parts : List Part) (at : ℕ) (l : code_line.Line) (x : List L.Line × List SaidBlock) → slice_get parts at ≡ Some (Does l)
-      → cut (map (part_view bytes t) (drop (suc at) parts)) ≡ Some x → put_line (line_view bytes t l) x ≡ None → cut (map (part_view bytes t) (drop at parts)) ≡ None
-  uncut_line parts at l x h c p = rw (drop_at parts at (Does l) h) (ap (λ o. o >>= put_line (line_view bytes t l)) c ∙ p)
+      → cut (map (part_view bytes t table) (drop (suc at) parts)) ≡ Some x → put_line (line_view bytes t table l) x ≡ None → cut (map (part_view bytes t table) (drop at parts)) ≡ None
+  uncut_line parts at l x h c p = rw (drop_at parts at (Does l) h) (ap (λ o. o >>= put_line (line_view bytes t table l)) c ∙ p)
 
   pub uncut_label : (parts : List Part) (at : ℕ) (n : Name) (x : List L.Line × List SaidBlock) → slice_get parts at ≡ Some (Label n)
-      → cut (map (part_view bytes t) (drop (suc at) parts)) ≡ Some x → put_label (text_of bytes n) x ≡ None → cut (map (part_view bytes t) (drop at parts)) ≡ None
+      → cut (map (part_view bytes t table) (drop (suc at) parts)) ≡ Some x → put_label (text_of bytes n) x ≡ None → cut (map (part_view bytes t table) (drop at parts)) ≡ None
   uncut_label parts at n x h c p = rw (drop_at parts at (Label n) h) (ap (λ o. o >>= put_label (text_of bytes n)) c ∙ p)
 
-  pub uncut_from : (parts : List Part) (at : ℕ) → cut (map (part_view bytes t) (drop at parts)) ≡ None → cut (map (part_view bytes t) parts) ≡ None
+  pub uncut_from : (parts : List Part) (at : ℕ) → cut (map (part_view bytes t table) (drop at parts)) ≡ None → cut (map (part_view bytes t table) parts) ≡ None
   uncut_from parts zero h = h
   uncut_from [] (suc at) h = h
   uncut_from (Does l ∷ parts) (suc at) h = rw (uncut_from parts at h) refl
@@ -76,25 +76,25 @@ module _ (bytes : List ℕ) (t : Trees) where
 
   -- what is refused at a place is refused
   pub line_refused : (parts : List Part) (at next : ℕ) (l : code_line.Line) (x : List L.Line × List SaidBlock) → slice_get parts at ≡ Some (Does l) → next ≡ suc at
-      → cut (map (part_view bytes t) (drop next parts)) ≡ Some x → put_line (line_view bytes t l) x ≡ None → blocks_of (map (part_view bytes t) parts) ≡ None
+      → cut (map (part_view bytes t table) (drop next parts)) ≡ Some x → put_line (line_view bytes t table l) x ≡ None → blocks_of (map (part_view bytes t table) parts) ≡ None
   line_refused parts at next l x h n c p =
-      let here = subst (λ (k : ℕ). cut (map (part_view bytes t) (drop k parts)) ≡ Some x) n c in
+      let here = subst (λ (k : ℕ). cut (map (part_view bytes t table) (drop k parts)) ≡ Some x) n c in
       ap (λ o. o >>= λ (y : List L.Line × List SaidBlock). Some (unlabelled y.0 y.1)) (uncut_from parts at (uncut_line parts at l x h here p))
 
   pub label_refused : (parts : List Part) (at next : ℕ) (n : Name) (x : List L.Line × List SaidBlock) → slice_get parts at ≡ Some (Label n) → next ≡ suc at
-      → cut (map (part_view bytes t) (drop next parts)) ≡ Some x → put_label (text_of bytes n) x ≡ None → blocks_of (map (part_view bytes t) parts) ≡ None
+      → cut (map (part_view bytes t table) (drop next parts)) ≡ Some x → put_label (text_of bytes n) x ≡ None → blocks_of (map (part_view bytes t table) parts) ≡ None
   label_refused parts at next n x h m c p =
-      let here = subst (λ (k : ℕ). cut (map (part_view bytes t) (drop k parts)) ≡ Some x) m c in
+      let here = subst (λ (k : ℕ). cut (map (part_view bytes t table) (drop k parts)) ≡ Some x) m c in
       ap (λ o. o >>= λ (y : List L.Line × List SaidBlock). Some (unlabelled y.0 y.1)) (uncut_from parts at (uncut_label parts at n x h here p))
 
   -- what is cut from a place on, where the next place is known
   pub line_cut : (parts : List Part) (at next : ℕ) (l : code_line.Line) (x y : List L.Line × List SaidBlock) → slice_get parts at ≡ Some (Does l) → next ≡ suc at
-      → cut (map (part_view bytes t) (drop next parts)) ≡ Some x → put_line (line_view bytes t l) x ≡ Some y → cut (map (part_view bytes t) (drop at parts)) ≡ Some y
-  line_cut parts at next l x y h n c p = cut_line parts at l x y h (subst (λ (k : ℕ). cut (map (part_view bytes t) (drop k parts)) ≡ Some x) n c) p
+      → cut (map (part_view bytes t table) (drop next parts)) ≡ Some x → put_line (line_view bytes t table l) x ≡ Some y → cut (map (part_view bytes t table) (drop at parts)) ≡ Some y
+  line_cut parts at next l x y h n c p = cut_line parts at l x y h (subst (λ (k : ℕ). cut (map (part_view bytes t table) (drop k parts)) ≡ Some x) n c) p
 
   pub label_cut : (parts : List Part) (at next : ℕ) (n : Name) (x y : List L.Line × List SaidBlock) → slice_get parts at ≡ Some (Label n) → next ≡ suc at
-      → cut (map (part_view bytes t) (drop next parts)) ≡ Some x → put_label (text_of bytes n) x ≡ Some y → cut (map (part_view bytes t) (drop at parts)) ≡ Some y
-  label_cut parts at next n x y h m c p = cut_label parts at n x y h (subst (λ (k : ℕ). cut (map (part_view bytes t) (drop k parts)) ≡ Some x) m c) p
+      → cut (map (part_view bytes t table) (drop next parts)) ≡ Some x → put_label (text_of bytes n) x ≡ Some y → cut (map (part_view bytes t table) (drop at parts)) ≡ Some y
+  label_cut parts at next n x y h m c p = cut_label parts at n x y h (subst (λ (k : ℕ). cut (map (part_view bytes t table) (drop k parts)) ≡ Some x) m c) p
 
 pub behind_none : (parts : List Part) (at : ℕ) (lines : List Part) → lines ≡ [] → IsBehind parts at lines
 behind_none parts at lines is = rw is (record { there = refl; begins = tt })

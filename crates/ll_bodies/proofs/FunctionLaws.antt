@@ -20,7 +20,7 @@ use Rattle.llvm_core.specs.Bodies.{blocks_from}
 use Rattle.ll_lines.specs.declared.lines.Part.{Part}
 use Rattle.ll_bodies.specs.BodyViews.{MadeBlocks}
 use Rattle.ll_bodies.specs.ScopeViews.{local_at, Adds, Knows, Refuses}
-use Rattle.ll_bodies.specs.SourceViews.{IsParamAmong, IsOfBlocks, IsLocalIn, IsScopeIn, types_in, param_in, block_in, source_trees}
+use Rattle.ll_bodies.specs.SourceViews.{structs_in, table_in, IsParamAmong, IsOfBlocks, IsLocalIn, IsScopeIn, types_in, param_in, block_in, source_trees}
 use Rattle.ll_bodies.specs.FunctionViews.{IsNamed, function_in, function_scope, function_body, function_made}
 use Rattle.std.specs.Option.{option_map}
 use Rattle.llvm_core.specs.Data as L
@@ -56,11 +56,11 @@ module _ (source : Source) where
   ]
 
   -- where the body is cut into these blocks
-  pub body_is : (f b n : ℕ) (x : code_function.Function) (xs : List code_block.SaidBlock) → blocks_of (map (part_view source.bytes.now (source_trees source)) x.body.items) ≡ Some (map (block_in source) xs)
-      → function_body source f b n x ≡ (function_scope source f b n x.params.items xs >>= λ u. blocks_data u b n (map (block_in source) xs))
+  pub body_is : (f b n : ℕ) (x : code_function.Function) (xs : List code_block.SaidBlock) → blocks_of (map (part_view source.bytes.now (source_trees source) (table_in source)) x.body.items) ≡ Some (map (block_in source) xs)
+      → function_body source f b n x ≡ (function_scope source f b n x.params.items xs >>= λ u. blocks_data (structs_in source) u b n (map (block_in source) xs))
   body_is f b n x xs h =
-      ap (λ o. o >>= λ said. params_scope spec.empty_scope f 0 (map (param_in source) x.params.items) >>= λ t. blocks_scope t b n said >>= λ u. blocks_data u b n said) h
-      ∙ sym (bind_assoc (params_scope spec.empty_scope f 0 (map (param_in source) x.params.items)) (λ t. blocks_scope t b n (map (block_in source) xs)) (λ u. blocks_data u b n (map (block_in source) xs)))
+      ap (λ o. o >>= λ said. params_scope spec.empty_scope f 0 (map (param_in source) x.params.items) >>= λ t. blocks_scope t b n said >>= λ u. blocks_data (structs_in source) u b n said) h
+      ∙ sym (bind_assoc (params_scope spec.empty_scope f 0 (map (param_in source) x.params.items)) (λ t. blocks_scope t b n (map (block_in source) xs)) (λ u. blocks_data (structs_in source) u b n (map (block_in source) xs)))
 
   -- the scope of a function
   pub scope_takes : (f b n : ℕ) (ps : List code_param.Param) (xs : List code_block.SaidBlock) (t u : spec.Scope) → params_scope spec.empty_scope f 0 (map (param_in source) ps) ≡ Some t
@@ -76,32 +76,32 @@ module _ (source : Source) where
 
   -- ---- the body, from what the program has of it
 
-  pub uncut : (f b n : ℕ) (x : code_function.Function) (parts : List Part) → parts ≡ x.body.items → blocks_of (map (part_view source.bytes.now (source_trees source)) parts) ≡ None → function_body source f b n x ≡ None
+  pub uncut : (f b n : ℕ) (x : code_function.Function) (parts : List Part) → parts ≡ x.body.items → blocks_of (map (part_view source.bytes.now (source_trees source) (table_in source)) parts) ≡ None → function_body source f b n x ≡ None
   uncut f b n x parts e h =
-      ap (λ o. o >>= λ said. params_scope spec.empty_scope f 0 (map (param_in source) x.params.items) >>= λ t. blocks_scope t b n said >>= λ u. blocks_data u b n said)
-      (ap (λ q. blocks_of (map (part_view source.bytes.now (source_trees source)) q)) (sym e) ∙ h)
+      ap (λ o. o >>= λ said. params_scope spec.empty_scope f 0 (map (param_in source) x.params.items) >>= λ t. blocks_scope t b n said >>= λ u. blocks_data (structs_in source) u b n said)
+      (ap (λ q. blocks_of (map (part_view source.bytes.now (source_trees source) (table_in source)) q)) (sym e) ∙ h)
 
   module _ (f b n : ℕ) (x : code_function.Function) (parts : List Part) (ps : List code_param.Param) (xs third : List code_block.SaidBlock)
       (body_at : parts ≡ x.body.items) (params_at : ps ≡ x.params.items) (blocks_at : third ≡ xs)
-      (is_cut : blocks_of (map (part_view source.bytes.now (source_trees source)) parts) ≡ Some (map (block_in source) xs)) where
-    as_scope : function_body source f b n x ≡ (function_scope source f b n ps third >>= λ u. blocks_data u b n (map (block_in source) xs))
+      (is_cut : blocks_of (map (part_view source.bytes.now (source_trees source) (table_in source)) parts) ≡ Some (map (block_in source) xs)) where
+    as_scope : function_body source f b n x ≡ (function_scope source f b n ps third >>= λ u. blocks_data (structs_in source) u b n (map (block_in source) xs))
     as_scope =
-        body_is f b n x xs (ap (λ q. blocks_of (map (part_view source.bytes.now (source_trees source)) q)) (sym body_at) ∙ is_cut)
-        ∙ ap (λ q. function_scope source f b n q xs >>= λ u. blocks_data u b n (map (block_in source) xs)) (sym params_at)
-        ∙ ap (λ q. function_scope source f b n ps q >>= λ u. blocks_data u b n (map (block_in source) xs)) (sym blocks_at)
+        body_is f b n x xs (ap (λ q. blocks_of (map (part_view source.bytes.now (source_trees source) (table_in source)) q)) (sym body_at) ∙ is_cut)
+        ∙ ap (λ q. function_scope source f b n q xs >>= λ u. blocks_data (structs_in source) u b n (map (block_in source) xs)) (sym params_at)
+        ∙ ap (λ q. function_scope source f b n ps q >>= λ u. blocks_data (structs_in source) u b n (map (block_in source) xs)) (sym blocks_at)
 
     pub unscoped : function_scope source f b n ps third ≡ None → function_body source f b n x ≡ None
-    unscoped h = as_scope ∙ ap (λ o. o >>= λ u. blocks_data u b n (map (block_in source) xs)) h
+    unscoped h = as_scope ∙ ap (λ o. o >>= λ u. blocks_data (structs_in source) u b n (map (block_in source) xs)) h
 
     module _ (scope : Scope) (fourth : List code_block.SaidBlock) (again_at : fourth ≡ xs)
         (known : (s : spec.Scope) × (function_scope source f b n ps third ≡ Some s) × Knows (types_in source) scope s) where
-      in_scope : function_body source f b n x ≡ blocks_data known.0 b n (map (block_in source) fourth)
-      in_scope = as_scope ∙ ap (λ o. o >>= λ u. blocks_data u b n (map (block_in source) xs)) known.1 ∙ ap (λ q. blocks_data known.0 b n (map (block_in source) q)) (sym again_at)
+      in_scope : function_body source f b n x ≡ blocks_data (structs_in source) known.0 b n (map (block_in source) fourth)
+      in_scope = as_scope ∙ ap (λ o. o >>= λ u. blocks_data (structs_in source) u b n (map (block_in source) xs)) known.1 ∙ ap (λ q. blocks_data (structs_in source) known.0 b n (map (block_in source) q)) (sym again_at)
 
       pub body_made : (body : List BodyBlock) → MadeBlocks source scope fourth body → function_body source f b n x ≡ Some (blocks_from (source_trees source) b n body)
       body_made body m = in_scope ∙ m.is known.0 b n known.2
 
-      pub body_unmade : ((b n : ℕ) → Refuses (types_in source) scope (λ s. blocks_data s b n (map (block_in source) fourth))) → function_body source f b n x ≡ None
+      pub body_unmade : ((b n : ℕ) → Refuses (types_in source) scope (λ s. blocks_data (structs_in source) s b n (map (block_in source) fourth))) → function_body source f b n x ≡ None
       body_unmade r = in_scope ∙ r b n known.0 known.2
 
 -- ---- the function, from its body
@@ -121,17 +121,17 @@ bind_none B None = refl
 bind_none B (Some x) = refl
 
 module _ (source : Source) (f b n : ℕ) (x : code_function.Function) where
-  function_is : function_data f b n (function_in source x) ≡ (symbol_name (function_in source x).name >>= λ name. function_body source f b n x >>= λ blocks. Some (function_made source f x name blocks))
+  function_is : function_data (structs_in source) f b n (function_in source x) ≡ (symbol_name (function_in source x).name >>= λ name. function_body source f b n x >>= λ blocks. Some (function_made source f x name blocks))
   function_is = bind_same (symbol_name (function_in source x).name) _ _ (λ name.
-      chained (blocks_of (function_in source x).body) (params_scope spec.empty_scope f 0 (function_in source x).params) (λ said s. blocks_scope s b n said) (λ said t. blocks_data t b n said) (λ blocks. Some (function_made source f x name blocks)))
+      chained (blocks_of (function_in source x).body) (params_scope spec.empty_scope f 0 (function_in source x).params) (λ said s. blocks_scope s b n said) (λ said t. blocks_data (structs_in source) t b n said) (λ blocks. Some (function_made source f x name blocks)))
 
-  pub data_made : (blocks : List Block) → function_body source f b n x ≡ Some blocks → function_data f b n (function_in source x) ≡ option_map (λ name. function_made source f x name blocks) (symbol_name (function_in source x).name)
+  pub data_made : (blocks : List Block) → function_body source f b n x ≡ Some blocks → function_data (structs_in source) f b n (function_in source x) ≡ option_map (λ name. function_made source f x name blocks) (symbol_name (function_in source x).name)
   data_made blocks h =
       function_is
       ∙ bind_same (symbol_name (function_in source x).name) _ _ (λ name. ap (λ o. o >>= λ blocks. Some (function_made source f x name blocks)) h)
       ∙ bind_some (symbol_name (function_in source x).name) (λ name. function_made source f x name blocks)
 
-  pub data_unmade : function_body source f b n x ≡ None → function_data f b n (function_in source x) ≡ None
+  pub data_unmade : function_body source f b n x ≡ None → function_data (structs_in source) f b n (function_in source x) ≡ None
   data_unmade h =
       function_is
       ∙ bind_same (symbol_name (function_in source x).name) _ _ (λ name. ap (λ o. o >>= λ blocks. Some (function_made source f x name blocks)) h)

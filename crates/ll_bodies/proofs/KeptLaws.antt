@@ -25,5 +25,5 @@ all_reverse P [] h = h
 all_reverse P (x ∷ xs) h = subst (All P) (sym (reverse-append (x ∷ []) xs)) (all_push P (reverse xs) x (all_reverse P xs (All-tail P x xs h)) (All-head P x xs h))
 
 -- parts that stand in a body are parts of it
-pub behind_in : (m : Module) (parts : List Part) (at : ℕ) (lines : List Part) → IsBehind parts at lines → All (IsPartIn m) parts → All (IsPartIn m) lines
-behind_in m parts at lines b h = subst (All (IsPartIn m)) b.there (all_take (IsPartIn m) (length lines) (drop at parts) (all_drop (IsPartIn m) at parts h))
+pub behind_in : (m : Module) (made : ℕ) (parts : List Part) (at : ℕ) (lines : List Part) → IsBehind parts at lines → All (IsPartIn m made) parts → All (IsPartIn m made) lines
+behind_in m made parts at lines b h = subst (All (IsPartIn m made)) b.there (all_take (IsPartIn m made) (length lines) (drop at parts) (all_drop (IsPartIn m made) at parts h))

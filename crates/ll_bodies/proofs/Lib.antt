@@ -16,7 +16,12 @@ pub mod ValueLaws
 pub mod WrittenLaws
 pub mod RightLaws
 pub mod AddingLaws
+pub mod ConstantLaws
+pub mod HoldLaws
+pub mod TableLaws
+pub mod KindLaws
 pub mod ViewLaws
+pub mod AddedLaws
 pub mod JoinLaws
 pub mod FoldLaws
 pub mod StructLaws

@@ -38,7 +38,7 @@ module _ {X A B Y : Type 0} (view : X → A) (f : A → Option B) (out : Y → B
       ∙ ap (λ o. (o >>= λ z. all_of f (map view (drop (suc at) xs)) >>= λ zs. Some (z ∷ zs)) >>= λ ws. Some (map out ys ++ ws)) is
 
   -- nothing has been made of the list yet
-  none_made : (xs : List X) → Done xs 0 []
+  pub none_made : (xs : List X) → Done xs 0 []
   none_made xs = record { is = whole (all_of f (map view xs)) }
 
   pub one_made : (xs : List X) (x : X) (y : Y) → length xs ≤ 1 → slice_get xs 0 ≡ Some x → f (view x) ≡ Some (out y) → all_of f (map view xs) ≡ Some (map out (y ∷ []))
@@ -46,3 +46,30 @@ module _ {X A B Y : Type 0} (view : X → A) (f : A → Option B) (out : Y → B
 
   pub two_made : (xs : List X) (x w : X) (y z : Y) → length xs ≤ 2 → slice_get xs 0 ≡ Some x → slice_get xs 1 ≡ Some w → f (view x) ≡ Some (out y) → f (view w) ≡ Some (out z) → all_of f (map view xs) ≡ Some (map out (y ∷ z ∷ []))
   two_made xs x w y z few h i e g = done_all xs 2 (y ∷ z ∷ []) few (done_more xs 1 2 (y ∷ []) w z i refl g (done_more xs 0 1 [] x y h refl e (none_made xs)))
+
+-- the same, of a list that is made of what is there
+module _ {A B : Type 0} (f : A → Option B) where
+  -- so much of the list has been made
+  pub record Gone (xs : List A) (at : ℕ) (ys : List B) : Type 0 where
+    pub is : all_of f xs ≡ (all_of f (drop at xs) >>= λ zs. Some (ys ++ zs))
+
+  pub gone_none : (xs : List A) → Gone xs 0 []
+  gone_none xs = record { is = whole (all_of f xs) }
+
+  pub gone_more : (xs : List A) (at next : ℕ) (ys : List B) (x : A) (y : B) → slice_get xs at ≡ Some x → next ≡ suc at → f x ≡ Some y → Gone xs at ys → Gone xs next (ys ++ y ∷ [])
+  gone_more xs at next ys x y h e is d = rw e (record {
+    is =
+        d.is
+        ∙ ap (λ zs. all_of f zs >>= λ ws. Some (ys ++ ws)) (drop_at xs at x h)
+        ∙ ap (λ o. (o >>= λ z. all_of f (drop (suc at) xs) >>= λ zs. Some (z ∷ zs)) >>= λ ws. Some (ys ++ ws)) is
+        ∙ then_some (all_of f (drop (suc at) xs)) y ys;
+  })
+
+  pub gone_all : (xs : List A) (at : ℕ) (ys : List B) → length xs ≤ at → Gone xs at ys → all_of f xs ≡ Some ys
+  gone_all xs at ys past d = d.is ∙ ap (λ zs. all_of f zs >>= λ ws. Some (ys ++ ws)) (drop_all at xs past) ∙ ap (λ zs. Some zs) (append-nil ys)
+
+  pub gone_refused : (xs : List A) (at : ℕ) (ys : List B) (x : A) → slice_get xs at ≡ Some x → f x ≡ None → Gone xs at ys → all_of f xs ≡ None
+  gone_refused xs at ys x h is d =
+      d.is
+      ∙ ap (λ zs. all_of f zs >>= λ ws. Some (ys ++ ws)) (drop_at xs at x h)
+      ∙ ap (λ o. (o >>= λ z. all_of f (drop (suc at) xs) >>= λ zs. Some (z ∷ zs)) >>= λ ws. Some (ys ++ ws)) is

@@ -20,7 +20,7 @@ use Rattle.ll_bodies.specs.declared.blocks.SaidBlock.{SaidBlock}
 use Rattle.ll_bodies.specs.declared.results.Source.{Source}
 use Rattle.ll_bodies.specs.Scopes.{Scope, BlockLocal, label_key, define_written, empty_scope}
 use Rattle.ll_bodies.specs.Meaning.{result_type, result_scope, lines_scope, blocks_scope, params_scope}
-use Rattle.ll_bodies.specs.SourceViews.{source_trees, inst_in, row_in, name_in, lines_in, block_in, param_in, line_scope, IsFitting, IsFittingRow, FitsIfNamed, IsSettled, HasSettled}
+use Rattle.ll_bodies.specs.SourceViews.{table_in, source_trees, inst_in, row_in, name_in, lines_in, block_in, param_in, line_scope, IsFitting, IsFittingRow, FitsIfNamed, IsSettled, HasSettled}
 use Rattle.ll_bodies.specs.FunctionViews.{function_scope}
 use Rattle.ll_bodies.proofs.InstructionLaws.{said_fits}
 use Rattle.ll_bodies.proofs.TypeLaws.{viewed_types}
@@ -35,7 +35,7 @@ module _ (source : Source) (s : Scope) where
     where
       by : (fit : Bool) → said_fits source s r ≡ fit → IsFittingRow (source_trees source) r
       by true e = e
-      by false e = absurd (some (viewed_types source.bytes.now (source_trees source) r ∙ untyped r.op _ _ e))
+      by false e = absurd (some (viewed_types source.bytes.now (source_trees source) (table_in source) r ∙ untyped r.op _ _ e))
 
   line_settled : (n : ℕ) (l : code_line.Line) (u : Scope) → line_scope source n l s ≡ Some u → FitsIfNamed (source_trees source) l
   line_settled n l u = by l.inst l.result

@@ -71,19 +71,19 @@ module _ (m : Module) (s : IsModule m) where
   nth_tree (x ∷ xs) zero = refl
   nth_tree (x ∷ xs) (suc i) = nth_tree xs i
 
-  pub nth_there : (xs : List Typed) (i : ℕ) → All (IsTypedIn m) xs → IfSome (slice_get (map (λ (x : Typed). x.ty) xs) i) (IsTypeIn m)
-  nth_there [] i h = tt
-  nth_there (x ∷ xs) zero h = (All-head (IsTypedIn m) x xs h).0
-  nth_there (x ∷ xs) (suc i) h = nth_there xs i (All-tail (IsTypedIn m) x xs h)
+  pub nth_there : (made : ℕ) (xs : List Typed) (i : ℕ) → All (IsTypedIn m made) xs → IfSome (slice_get (map (λ (x : Typed). x.ty) xs) i) (IsTypeIn m)
+  nth_there made [] i h = tt
+  nth_there made (x ∷ xs) zero h = (All-head (IsTypedIn m made) x xs h).0
+  nth_there made (x ∷ xs) (suc i) h = nth_there made xs i (All-tail (IsTypedIn m made) x xs h)
 
   -- a row fits where the trees of its types do
-  pub fits_told : (r : RowLine) → IsRowIn m r
+  pub fits_told : (made : ℕ) (r : RowLine) → IsRowIn m made r
       → fits view_shape view_same (rule_of r.op) (length r.operands) (option_map (view m.types) r.written) (option_map (view m.types) (slice_get (map (λ (x : Typed). x.ty) r.operands) 0)) (option_map (view m.types) (slice_get (map (λ (x : Typed). x.ty) r.operands) 1)) (option_map (view m.types) (slice_get (map (λ (x : Typed). x.ty) r.operands) 2))
       ≡ fits_trees r.op (option_map tree r.written) (map (λ (x : Typed). tree x.ty) r.operands)
-  fits_told r h =
+  fits_told made r h =
       let xs = r.operands in
       let at = λ (i : ℕ). nth_tree xs i ∙ sym (named_view (slice_get (map (λ (x : Typed). x.ty) xs) i)) in
-      let good = λ (i : ℕ). good_some (slice_get (map (λ (x : Typed). x.ty) xs) i) (nth_there xs i h.1) in
+      let good = λ (i : ℕ). good_some (slice_get (map (λ (x : Typed). x.ty) xs) i) (nth_there made xs i h.1) in
       let e = fits_kept view_shape view_same shape same_tree named IsGood (λ t g. sym g.1) told (rule_of r.op) (length xs) (option_map (view m.types) r.written) (option_map (view m.types) (slice_get (map (λ (x : Typed). x.ty) xs) 0)) (option_map (view m.types) (slice_get (map (λ (x : Typed). x.ty) xs) 1)) (option_map (view m.types) (slice_get (map (λ (x : Typed). x.ty) xs) 2))
       (good_some r.written h.0) (good 0) (good 1) (good 2) in
       let w = sym (named_view r.written) in
@@ -100,9 +100,9 @@ module _ (m : Module) (s : IsModule m) where
   typed_told r bit result fit e = rw (fit, nth_tree r.operands 0, nth_tree r.operands 1) e
 
 -- the types of the operands, as they are said
-pub types_said : (bytes : List ℕ) (t : Trees) (xs : List Typed) → map (λ (x : L.Typed). x.type) (map (typed_view bytes t) xs) ≡ map (λ (x : Typed). type_at t.types x.ty) xs
-types_said bytes t [] = refl
-types_said bytes t (x ∷ xs) = ap (λ ts. type_at t.types x.ty ∷ ts) (types_said bytes t xs)
+pub types_said : (bytes : List ℕ) (t : Trees) (table : List L.SaidConst) (xs : List Typed) → map (λ (x : L.Typed). x.type) (map (typed_view bytes t table) xs) ≡ map (λ (x : Typed). type_at t.types x.ty) xs
+types_said bytes t table [] = refl
+types_said bytes t table (x ∷ xs) = ap (λ ts. type_at t.types x.ty ∷ ts) (types_said bytes t table xs)
 
-pub viewed_types : (bytes : List ℕ) (t : Trees) (r : RowLine) → result_type (L.Row (row_view bytes t r)) ≡ typed r.op (option_map (type_at t.types) r.written) (map (λ (x : Typed). type_at t.types x.ty) r.operands)
-viewed_types bytes t r = ap (typed r.op (option_map (type_at t.types) r.written)) (types_said bytes t r.operands)
+pub viewed_types : (bytes : List ℕ) (t : Trees) (table : List L.SaidConst) (r : RowLine) → result_type (L.Row (row_view bytes t table r)) ≡ typed r.op (option_map (type_at t.types) r.written) (map (λ (x : Typed). type_at t.types x.ty) r.operands)
+viewed_types bytes t table r = ap (typed r.op (option_map (type_at t.types) r.written)) (types_said bytes t table r.operands)

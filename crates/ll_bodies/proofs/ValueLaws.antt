@@ -33,6 +33,9 @@ use Rattle.llvm_core.specs.Data.{const_tree, type_trees}
 use Rattle.llvm_core.specs.Bodies.{added}
 use Rattle.llvm_core.proofs.BodyTypes.{all_insts, old_type, old_value, new_type, new_value, new_block}
 use Rattle.llvm_core.specs.declared.numbers.LLVMInstRef.{LLVMInstRef}
+use Rattle.std.specs.Prelude.{IfSome}
+use Rattle.ll_bodies.specs.TableViews.{number_in}
+use Rattle.ll_bodies.proofs.TableLaws.{number_means, number_there}
 use Rattle.ll_bodies.proofs.OperandLaws.{const_told}
 use Rattle.ll_lines.specs.declared.lines.Said as code_said
 use Rattle.ll_lines.specs.declared.names.Name.{Name}
@@ -40,7 +43,7 @@ use Rattle.ll_lines.specs.Views.{IsSaidIn, text_of}
 use Rattle.ll_bodies.specs.FunctionViews.{IsNamed}
 use Rattle.ll_bodies.specs.Meaning.{operand}
 use Rattle.ll_bodies.specs.Scopes.{local_key, local_of, block_of}
-use Rattle.ll_bodies.specs.SourceViews.{said_in}
+use Rattle.ll_bodies.specs.SourceViews.{structs_in, made_in, const_in, IsSource, said_in}
 use Rattle.ll_lines.specs.declared.lines.Param as code_param
 use Rattle.ll_lines.specs.declared.lines.Line as code_line
 use Rattle.ll_literals.specs.Chain.{◌>>=◌}
@@ -159,7 +162,7 @@ only_names source f b n ps xs scope s knows at k z e = by (local_at scope k) ref
     by None is h = absurd cc
     by (Some y) is h = (y, cc (is, h), at k y is)
 
-module _ (source : Source) (f : LLVMFunction) (ps : List code_param.Param) (xs : List code_block.SaidBlock) (body : List BodyBlock) (x : FunctionData) (sound : IsModule source.module.now)
+module _ (source : Source) (f : LLVMFunction) (ps : List code_param.Param) (xs : List code_block.SaidBlock) (body : List BodyBlock) (x : FunctionData) (good : IsSource source)
     (at : slice_get source.module.now.functions f.0 ≡ Some x) (types : type_params source.module.now.types x.ty ≡ map (λ (p : code_param.Param). p.ty) ps) (names : length x.params ≡ length ps)
     (blocks : length body ≡ length xs)
     (made : map (λ (z : InstData). type_at (types_in source) z.ty) (all_insts body) ≡ map (λ (l : code_line.Line). option_map_or (λ (τ : TypeTree). τ) (result_type (line_in source l).inst) VoidType) (all_lines xs)) where
@@ -179,7 +182,7 @@ module _ (source : Source) (f : LLVMFunction) (ps : List code_param.Param) (xs :
   const_stands : (c : LLVMConst) (τ : TypeTree) → c.0 < length m.consts → const_type (const_at (source_trees source).consts c) ≡ τ → Stands τ (V.Const c)
   const_stands c τ lt e =
       let k = item_there m.consts c.0 lt in
-      (lt, ap (λ (o : Option LLVMType). option_map_or tree o VoidType) (ap (option_map P.const_type) k.1) ∙ sym (const_told m sound c (P.const_type k.0) lt (ap (option_map P.const_type) k.1)) ∙ e)
+      (lt, ap (λ (o : Option LLVMType). option_map_or tree o VoidType) (ap (option_map P.const_type) k.1) ∙ sym (const_told m good.sound c (P.const_type k.0) lt (ap (option_map P.const_type) k.1)) ∙ e)
 
   param_stands : (g : LLVMFunction) (place : ℕ) (p : code_param.Param) (τ : TypeTree) → g.0 ≡ f.0 → slice_get ps place ≡ Some p → tree p.ty ≡ τ → Stands τ (V.Param g place)
   param_stands g place p τ e here is =
@@ -190,7 +193,7 @@ module _ (source : Source) (f : LLVMFunction) (ps : List code_param.Param) (xs :
       let type : value_type m (V.Param g place) ≡ Some p.ty =
       ap (λ (o : Option FunctionData). slice_get (option_map_or (param_types m) o []) place) function ∙ ap (λ (ts : List LLVMType). slice_get ts place) types
       ∙ slice_get-map (λ (q : code_param.Param). q.ty) ps place ∙ ap (option_map (λ (q : code_param.Param). q.ty)) here in
-      (old_value m f body (V.Param g place) there, ap (λ (o : Option LLVMType). option_map_or tree o VoidType) (old_type m f body (V.Param g place) sound there ∙ type) ∙ is)
+      (old_value m f body (V.Param g place) there, ap (λ (o : Option LLVMType). option_map_or tree o VoidType) (old_type m f body (V.Param g place) good.sound there ∙ type) ∙ is)
 
   -- the instruction of a line
   inst_at : (k : ℕ) (l : code_line.Line) → slice_get (all_lines xs) k ≡ Some l → (z : InstData) × (slice_get (all_insts body) k ≡ Some z) × (tree z.ty ≡ option_map_or (λ (τ : TypeTree). τ) (result_type (line_in source l).inst) VoidType)
@@ -241,8 +244,9 @@ module _ (source : Source) (f : LLVMFunction) (ps : List code_param.Param) (xs :
           result_stands i (count_lines (take q.0 xs) + z.0) z.1 τ (omega (arith, a, same)) (line_at xs q.0 z.0 q.1 z.1 q.2 z.2) (z.3.1 ∙ ap Some t))
     ]
 
-    pub value_right : (τ : TypeTree) (said : code_said.Said) (v : LLVMValue) → IsSaidIn m said → operand s τ (said_in source said) ≡ Some (operand_of (source_trees source) v) → Stands τ v
-    value_right τ (code_said.TheVariants.Const c) v there h =
+    const_right : (c : LLVMConst) (τ : TypeTree) (v : LLVMValue) → c.0 < length m.consts
+        → (if same_tree (const_type (const_at (source_trees source).consts c)) τ then Some (D.Constant (const_at (source_trees source).consts c)) else None) ≡ Some (operand_of (source_trees source) v) → Stands τ v
+    const_right c τ v there h =
         let p = cond_found (same_tree (const_type (const_at (source_trees source).consts c)) τ) (D.Constant (const_at (source_trees source).consts c)) (operand_of (source_trees source) v) h in
         by v p.1 (tree_told (const_type (const_at (source_trees source).consts c)) τ p.0)
       where
@@ -251,7 +255,17 @@ module _ (source : Source) (f : LLVMFunction) (ps : List code_param.Param) (xs :
         by (V.Inst i) e t = absurd cc
         by (V.Const d) e t =
             let same : const_at (source_trees source).consts c ≡ const_at (source_trees source).consts d = cc in
-            const_stands d τ (const_there m sound c d there same) (ap const_type (sym same) ∙ t)
+            const_stands d τ (const_there m good.sound c d there same) (ap const_type (sym same) ∙ t)
+
+    pub value_right : (τ : TypeTree) (said : code_said.Said) (v : LLVMValue) → IsSaidIn m (made_in source) said → operand (structs_in source) s τ (said_in source said) ≡ Some (operand_of (source_trees source) v) → Stands τ v
+    value_right τ (code_said.TheVariants.Const c) v there h =
+        by (number_in source.consts.now c) (number_there source.bytes.now m source.table.now (made_in source) source.consts.now good.made c there)
+        (number_means source.bytes.now m source.table.now (made_in source) source.consts.now good.made c there) h
+      where
+        by : (o : Option LLVMConst) → IfSome o (λ (d : LLVMConst). d.0 < length m.consts) → option_map (const_at (source_trees source).consts) o ≡ const_in source c
+            → (const_in source c >>= λ d. if same_tree (const_type d) τ then Some (D.Constant d) else None) ≡ Some (operand_of (source_trees source) v) → Stands τ v
+        by None there e h = absurd (let none : None ≡ Some (operand_of (source_trees source) v) = ap (λ o. o >>= λ d. if same_tree (const_type d) τ then Some (D.Constant d) else None) e ∙ h in cc (none))
+        by (Some d) there e h = const_right d τ v there (ap (λ o. o >>= λ d. if same_tree (const_type d) τ then Some (D.Constant d) else None) e ∙ h)
     value_right τ (code_said.TheVariants.Local name) v there h =
         let found = value_found τ (local_of s (text_of source.bytes.now name)) (operand_of (source_trees source) v) h in
         let k = found_under (local_key (text_of source.bytes.now name)) s.known (ValueLocal (operand_of (source_trees source) v) τ) found in

@@ -5,7 +5,7 @@ use Rattle.llvm_core.specs.Data.{Trees}
 use Rattle.ll_lines.specs.declared.lines.Part.{Part}
 use Rattle.ll_lines.specs.declared.lines.Part.TheVariants.{Label, Does}
 use Rattle.ll_lines.specs.declared.lines.Line as code_line
-use Rattle.ll_lines.specs.Lines.{Line}
+use Rattle.ll_lines.specs.Lines.{Line, SaidConst}
 use Rattle.ll_lines.specs.Views.{text_of, line_view}
 use Rattle.ll_bodies.specs.declared.blocks.SaidBlock as code
 use Rattle.ll_bodies.specs.declared.blocks.Behind.{Behind}
@@ -28,9 +28,9 @@ pub record IsBehind (parts : List Part) (at : ℕ) (lines : List Part) : Type 0 
   pub there : take (length lines) (drop at parts) ≡ lines
   pub begins : BeginsWithLine lines
 
-module _ (bytes : List ℕ) (t : Trees) where
+module _ (bytes : List ℕ) (t : Trees) (table : List SaidConst) where
   abbrev pub lines_view : List Part → List Line
-  lines_view ps = map (line_view bytes t) (lines_of ps)
+  lines_view ps = map (line_view bytes t table) (lines_of ps)
 
   abbrev pub block_view : code.SaidBlock → SaidBlock
   block_view b = record { label = option_map (text_of bytes) b.label; lines = lines_view b.lines.now }

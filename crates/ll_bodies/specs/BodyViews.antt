@@ -11,7 +11,7 @@ use Rattle.ll_bodies.specs.declared.scope.Scope as code
 use Rattle.ll_bodies.specs.Scopes.{Scope}
 use Rattle.ll_bodies.specs.Meaning.{all_from, placed, blocks_data}
 use Rattle.ll_bodies.specs.ScopeViews.{Knows}
-use Rattle.ll_bodies.specs.SourceViews.{types_in, source_trees, line_in, block_in, count_lines}
+use Rattle.ll_bodies.specs.SourceViews.{types_in, source_trees, structs_in, line_in, block_in, count_lines}
 
 -- ---- as data
 
@@ -29,7 +29,7 @@ count_body (b ∷ bs) = length b.insts + count_body bs
 -- the instructions that lines mean, in the scope of their function
 pub record Made (source : Source) (scope : code.Scope) (lines : List Line) (made : List InstData) : Type 0 where
   pub count : length made ≡ length lines
-  pub is : (s : Scope) (n : ℕ) → Knows (types_in source) scope s → all_from (placed s) n (map (line_in source) lines) ≡ Some (placed_from (source_trees source) n made)
+  pub is : (s : Scope) (n : ℕ) → Knows (types_in source) scope s → all_from (placed (structs_in source) s) n (map (line_in source) lines) ≡ Some (placed_from (source_trees source) n made)
 
 -- the instructions of lines are put behind others
 pub record Extends (source : Source) (scope : code.Scope) (lines : List Line) (old new : List InstData) : Type 0 where
@@ -41,4 +41,4 @@ pub record Extends (source : Source) (scope : code.Scope) (lines : List Line) (o
 pub record MadeBlocks (source : Source) (scope : code.Scope) (blocks : List SaidBlock) (made : List BodyBlock) : Type 0 where
   pub count : length made ≡ length blocks
   pub insts : count_body made ≡ count_lines blocks
-  pub is : (s : Scope) (b n : ℕ) → Knows (types_in source) scope s → blocks_data s b n (map (block_in source) blocks) ≡ Some (blocks_from (source_trees source) b n made)
+  pub is : (s : Scope) (b n : ℕ) → Knows (types_in source) scope s → blocks_data (structs_in source) s b n (map (block_in source) blocks) ≡ Some (blocks_from (source_trees source) b n made)

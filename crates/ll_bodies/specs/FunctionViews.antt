@@ -18,11 +18,11 @@ use Rattle.ll_bodies.specs.declared.blocks.SaidBlock.{SaidBlock}
 use Rattle.ll_bodies.specs.declared.results.Source.{Source}
 use Rattle.ll_bodies.specs.Scopes.{Scope, empty_scope, local_key, written_name}
 use Rattle.ll_bodies.specs.Meaning.{types_of, params_scope, blocks_of, blocks_scope, blocks_data}
-use Rattle.ll_bodies.specs.SourceViews.{param_in, block_in, source_trees, IsParamAmong, IsOfBlocks}
+use Rattle.ll_bodies.specs.SourceViews.{param_in, block_in, source_trees, structs_in, table_in, IsParamAmong, IsOfBlocks}
 
 -- the function of lines that the program holds
 abbrev pub function_in : Source → code.Function → Function
-function_in s f = function_view s.bytes.now (source_trees s) f
+function_in s f = function_view s.bytes.now (source_trees s) (table_in s) f
 
 -- the scope of the function f, with these parameters and blocks
 abbrev pub function_scope : Source → (f b n : ℕ) → List Param → List SaidBlock → Option Scope
@@ -34,7 +34,7 @@ function_body s f b n x = do
   said ← blocks_of (function_in s x).body
   t ← params_scope empty_scope f 0 (function_in s x).params
   u ← blocks_scope t b n said
-  blocks_data u b n said
+  blocks_data (structs_in s) u b n said
 
 -- the function of the number f, with that name and those blocks
 abbrev pub function_made : Source → (f : ℕ) → code.Function → Text → List Block → L.Function

@@ -1,6 +1,8 @@
 -- The definitions of the crate.
+pub mod Constants
 pub mod Scopes
 pub mod Meaning
+pub mod TableViews
 pub mod BlockViews
 pub mod ScopeViews
 pub mod SourceViews

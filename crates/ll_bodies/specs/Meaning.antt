@@ -10,6 +10,7 @@ use Rattle.llvm_core.specs.Data.{Operand, Placed, Block, Struct, ModuleData, con
 use Rattle.ll_literals.specs.Chain.{◌>>=◌}
 use Rattle.ll_literals.specs.Names.{symbol_name, text_said}
 use Rattle.ll_lines.specs.Lines.{Text, Said, Local, Const, Typed, Incoming, Inst, Phi, Row, Line, Part, Label, Does, Param, Function, StructLine, File}
+use Rattle.ll_bodies.specs.Constants.{const_meant}
 use Rattle.ll_bodies.specs.Scopes.{Scope, ValueLocal, BlockLocal, empty_scope, local_key, label_key, define_written, written_name, local_of, value_of_type, block_of}
 
 -- ---- a list of things, each of which may mean nothing
@@ -94,33 +95,35 @@ params_scope s f i (p ∷ ps) = define_written s (ValueLocal (L.Parameter f i) p
 
 -- ---- what is said, in the scope of the whole function: a use may stand before its definition
 
--- an operand of that type
-abbrev pub operand : Scope → TypeTree → Said → Option Operand
-operand s τ (Const c) = if same_tree (const_type c) τ then Some (L.Constant c) else None
-operand s τ (Local t) = value_of_type τ (local_of s t)
+-- in a module of these structs
+module _ (structs : List Struct) where
+  -- an operand of that type
+  abbrev pub operand : Scope → TypeTree → Said → Option Operand
+  operand s τ (Const c) = const_meant structs c >>= λ d. if same_tree (const_type d) τ then Some (L.Constant d) else None
+  operand s τ (Local t) = value_of_type τ (local_of s t)
 
-abbrev pub entry : Scope → TypeTree → Incoming → Option (Operand × ℕ)
-entry s τ e = operand s τ e.said >>= λ o. block_of s e.block >>= λ b. Some (o, b)
+  abbrev pub entry : Scope → TypeTree → Incoming → Option (Operand × ℕ)
+  entry s τ e = operand s τ e.said >>= λ o. block_of s e.block >>= λ b. Some (o, b)
 
--- operands that do not fit a row mean nothing; how many there have to be, and what a return gives, is for the check
-abbrev pub instruction : Scope → Inst → Option L.Instruction
-instruction s (Phi type entries) = all_of (entry s type) entries >>= λ es. Some (L.Phi es)
-instruction s (Row r) = do
-  os ← all_of (λ (x : Typed). operand s x.type x.said) r.operands
-  bs ← all_of (block_of s) r.targets
-  if fits_trees r.op r.written (map (λ (x : Typed). x.type) r.operands) then Some (L.Applied (record { op = r.op; written = r.written; operands = os; targets = bs })) else None
+  -- operands that do not fit a row mean nothing; how many there have to be, and what a return gives, is for the check
+  abbrev pub instruction : Scope → Inst → Option L.Instruction
+  instruction s (Phi type entries) = all_of (entry s type) entries >>= λ es. Some (L.Phi es)
+  instruction s (Row r) = do
+    os ← all_of (λ (x : Typed). operand s x.type x.said) r.operands
+    bs ← all_of (block_of s) r.targets
+    if fits_trees r.op r.written (map (λ (x : Typed). x.type) r.operands) then Some (L.Applied (record { op = r.op; written = r.written; operands = os; targets = bs })) else None
 
--- an instruction under its number
-abbrev pub placed : Scope → (number : ℕ) → Line → Option Placed
-placed s n l = instruction s l.inst >>= λ i. Some (record { number = n; name = written_name local_key l.result; type = option_map_or (λ (τ : TypeTree). τ) (result_type l.inst) VoidType; instruction = i })
+  -- an instruction under its number
+  abbrev pub placed : Scope → (number : ℕ) → Line → Option Placed
+  placed s n l = instruction s l.inst >>= λ i. Some (record { number = n; name = written_name local_key l.result; type = option_map_or (λ (τ : TypeTree). τ) (result_type l.inst) VoidType; instruction = i })
 
--- blocks from the number b on, whose instructions have the numbers from n on
-abbrev pub blocks_data : Scope → (b n : ℕ) → List SaidBlock → Option (List Block)
-blocks_data s b n [] = Some []
-blocks_data s b n (x ∷ xs) = do
-  is ← all_from (placed s) n x.lines
-  bs ← blocks_data s (suc b) (n + length x.lines) xs
-  Some (record { number = b; name = written_name label_key x.label; instructions = is } ∷ bs)
+  -- blocks from the number b on, whose instructions have the numbers from n on
+  abbrev pub blocks_data : Scope → (b n : ℕ) → List SaidBlock → Option (List Block)
+  blocks_data s b n [] = Some []
+  blocks_data s b n (x ∷ xs) = do
+    is ← all_from (placed s) n x.lines
+    bs ← blocks_data s (suc b) (n + length x.lines) xs
+    Some (record { number = b; name = written_name label_key x.label; instructions = is } ∷ bs)
 
 -- ---- functions
 
@@ -128,14 +131,14 @@ abbrev pub types_of : List Param → TypeTrees
 types_of [] = NoTypes
 types_of (p ∷ ps) = ThenType p.type (types_of ps)
 
--- the function of the number f, with blocks from b on and instructions from n on
-abbrev pub function_data : (f b n : ℕ) → Function → Option L.Function
-function_data f b n x = do
+-- the function of the number f, with blocks from b on and instructions from n on, in a module of these structs
+abbrev pub function_data : List Struct → (f b n : ℕ) → Function → Option L.Function
+function_data structs f b n x = do
   name ← symbol_name x.name
   said ← blocks_of x.body
   s ← params_scope empty_scope f 0 x.params
   t ← blocks_scope s b n said
-  blocks ← blocks_data t b n said
+  blocks ← blocks_data structs t b n said
   Some (record {
     number = f;
     name = name;
@@ -151,11 +154,11 @@ count_insts [] = 0
 count_insts (b ∷ bs) = length b.instructions + count_insts bs
 
 -- functions from the number f on, with blocks from b on and instructions from n on
-abbrev pub functions_data : (f b n : ℕ) → List Function → Option (List L.Function)
-functions_data f b n [] = Some []
-functions_data f b n (x ∷ xs) = do
-  d ← function_data f b n x
-  ds ← functions_data (suc f) (b + length d.blocks) (n + count_insts d.blocks) xs
+abbrev pub functions_data : List Struct → (f b n : ℕ) → List Function → Option (List L.Function)
+functions_data structs f b n [] = Some []
+functions_data structs f b n (x ∷ xs) = do
+  d ← function_data structs f b n x
+  ds ← functions_data structs (suc f) (b + length d.blocks) (n + count_insts d.blocks) xs
   Some (d ∷ ds)
 
 -- ---- a file
@@ -174,5 +177,5 @@ abbrev pub file_data : File → Option ModuleData
 file_data m = do
   name ← source_name m.source
   structs ← all_of struct_data m.structs
-  functions ← functions_data 0 0 0 m.functions
+  functions ← functions_data structs 0 0 0 m.functions
   Some (record { name = name; structs = structs; functions = functions })

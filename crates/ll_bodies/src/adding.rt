@@ -7,21 +7,22 @@ ghost use Rattle.llvm_core.specs.Code.{param_names};
 ghost use Rattle.llvm_core.specs.Data.{data_of, trees_of, with_function};
 ghost use Rattle.llvm_core.specs.Sound.{IsModule};
 ghost use Rattle.llvm_core.specs.declared.types.LLVMTypeKind.TheVariants as kinds;
-ghost use Rattle.ll_lines.specs.Views.{IsFunctionIn, IsFileIn, function_view, file_view};
-ghost use Rattle.ll_bodies.specs.Meaning.{function_data, functions_data, file_data};
-ghost use Rattle.ll_bodies.specs.AddingViews.{AddsTypes, Renames, names_in, with_params, function_with, GivesBody, AddsFunction, AddsFunctions};
+ghost use Rattle.ll_lines.specs.Views.{IsTypeIn, IsTableIn, IsFunctionIn, IsFileIn, file_view};
+ghost use Rattle.ll_bodies.specs.Meaning.{file_data};
+ghost use Rattle.ll_bodies.specs.AddingViews.{IsShared, AddsTypes, Renames, data_over, all_over, names_in, with_params, function_with, GivesBody, AddsFunction, AddsFunctions};
 ghost use Rattle.ll_bodies.specs.FunctionViews.{IsNext};
 
 use crate::build_err::BuildErr;
+use crate::constants::add_consts;
 use crate::definitions::next_number;
 use crate::functions::body_of;
 use crate::names::{local_name, source_name};
 use crate::results::Source;
 use crate::structs::add_structs;
-use ll_lines::lines::{File, Function, Param};
+use ll_lines::lines::{ConstLine, File, Function, Param};
 use ll_literals::symbols::symbol_name;
 use llvm_core::module::LLVMModule;
-use llvm_core::numbers::{LLVMFunction, LLVMType};
+use llvm_core::numbers::{LLVMConst, LLVMFunction, LLVMType};
 use llvm_core::types::LLVMTypeKind;
 use std::alloc::{AllocError, Global};
 use support::items::Items;
@@ -31,6 +32,15 @@ use support::items::Items;
 struct Needed {
     bit: LLVMType,
     void: LLVMType,
+}
+
+/// What every function of a text is said over: its bytes, and its constants that are made of others, with the number of what each
+/// means in the module.
+#[derive(Clone, Copy, Drop)]
+struct Shared<'a> {
+    bytes: &'a [u8],
+    table: &'a [ConstLine],
+    consts: &'a [Option<LLVMConst>],
 }
 
 /// The types of parameters.
@@ -73,7 +83,7 @@ fn function_type(
     module: &mut LLVMModule,
     said: &Function,
 ) -> Result<LLVMType, AllocError>
-    requires { IsFunctionIn module.old said.now }
+    requires { IsTypeIn module.old said.now.result × All (λ p. IsTypeIn module.old p.ty) said.now.params.items }
     ensures grows { OnOk result (AddsTypes module.old module.new) }
     ensures here { IfOk result (λ t. slice_get module.new.types t.0 ≡ Some (kinds.Function said.now.result (map (λ (p : Param). p.ty) said.now.params.items) false)) }
     ensures sound { OnOk result (IsModule module.new) }
@@ -139,27 +149,30 @@ fn declare(
 fn give_body(
     alloc: Global,
     module: &mut LLVMModule,
-    bytes: &[u8],
+    shared: &Shared<'_>,
     f: LLVMFunction,
     types: &Needed,
     said: &Function,
 ) -> Result<(), BuildErr>
     requires sound { IsModule module.old }
-    requires said { IsFunctionIn module.old said.now }
+    requires made { IsShared module.old shared.now }
+    requires said { IsFunctionIn module.old (length shared.now.table.now) said.now }
     requires next { IsNext module.old f (length module.old.blocks) (length module.old.insts) said.now }
     requires bit { slice_get module.old.types types.now.bit.0 ≡ Some (kinds.Int 1) }
     requires void { slice_get module.old.types types.now.void.0 ≡ Some kinds.Void }
-    ensures ok { OnOk result (GivesBody bytes.now f.0 said.now module.old module.new) }
-    ensures not_yet { result ≡ Err BuildErr.NotYet → function_data f.0 (length module.old.blocks) (length module.old.insts) (function_view bytes.now (trees_of module.old) said.now) ≡ None }
+    ensures ok { OnOk result (GivesBody shared.now.bytes.now shared.now.table.now f.0 said.now module.old module.new) }
+    ensures not_yet { result ≡ Err BuildErr.NotYet → data_over shared.now.bytes.now shared.now.table.now module.old f.0 (length module.old.blocks) (length module.old.insts) said.now ≡ None }
     ensures sound { OnOk result (IsModule module.new) }
 {
     let first_block = module.block_count();
     let first = module.inst_count();
     let source = Source {
-        bytes,
+        bytes: shared.bytes,
         module: &*module,
         bit: types.bit,
         void: types.void,
+        table: shared.table,
+        consts: shared.consts,
     };
     let body = body_of(alloc, &source, f, first_block, first, said)?;
     module.add_body(f, body)?;
@@ -170,41 +183,45 @@ fn give_body(
 fn add_function(
     alloc: Global,
     module: &mut LLVMModule,
-    bytes: &[u8],
+    shared: &Shared<'_>,
     types: &Needed,
     said: &Function,
 ) -> Result<(), BuildErr>
     requires sound { IsModule module.old }
-    requires said { IsFunctionIn module.old said.now }
+    requires table { IsTableIn module.old shared.now.table.now }
+    requires made { IsShared module.old shared.now }
+    requires said { IsFunctionIn module.old (length shared.now.table.now) said.now }
     requires bit { slice_get module.old.types types.now.bit.0 ≡ Some (kinds.Int 1) }
     requires void { slice_get module.old.types types.now.void.0 ≡ Some kinds.Void }
-    ensures ok { OnOk result (AddsFunction bytes.now said.now module.old module.new) }
-    ensures not_yet { result ≡ Err BuildErr.NotYet → function_data (length module.old.functions) (length module.old.blocks) (length module.old.insts) (function_view bytes.now (trees_of module.old) said.now) ≡ None }
+    ensures ok { OnOk result (AddsFunction shared.now.bytes.now shared.now.table.now said.now module.old module.new) }
+    ensures not_yet { result ≡ Err BuildErr.NotYet → data_over shared.now.bytes.now shared.now.table.now module.old (length module.old.functions) (length module.old.blocks) (length module.old.insts) said.now ≡ None }
 {
-    let written = symbol_name(alloc, said.name.text(bytes))?;
+    let written = symbol_name(alloc, said.name.text(shared.bytes))?;
     let Some(name) = written else {
         return Err(BuildErr::NotYet);
     };
     let ty = function_type(alloc, module, said)?;
-    let f = declare(alloc, module, bytes, name.as_str(), ty, said)?;
-    give_body(alloc, module, bytes, f, types, said)
+    let f = declare(alloc, module, shared.bytes, name.as_str(), ty, said)?;
+    give_body(alloc, module, shared, f, types, said)
 }
 
 /// Adds functions behind those that are there, in their order.
 fn add_functions(
     alloc: Global,
     module: &mut LLVMModule,
-    bytes: &[u8],
+    shared: &Shared<'_>,
     functions: &[Function],
 ) -> Result<(), BuildErr>
     requires sound { IsModule module.old }
-    requires said { All (IsFunctionIn module.old) functions.now }
-    ensures ok { OnOk result (AddsFunctions bytes.now functions.now module.old module.new) }
-    ensures not_yet { result ≡ Err BuildErr.NotYet → functions_data (length module.old.functions) (length module.old.blocks) (length module.old.insts) (map (function_view bytes.now (trees_of module.old)) functions.now) ≡ None }
+    requires table { IsTableIn module.old shared.now.table.now }
+    requires made { IsShared module.old shared.now }
+    requires said { All (IsFunctionIn module.old (length shared.now.table.now)) functions.now }
+    ensures ok { OnOk result (AddsFunctions shared.now.bytes.now shared.now.table.now functions.now module.old module.new) }
+    ensures not_yet { result ≡ Err BuildErr.NotYet → all_over shared.now.bytes.now shared.now.table.now module.old functions.now ≡ None }
 {
     let types = needed_types(module)?;
     for function in functions {
-        add_function(alloc, module, bytes, &types, function)?;
+        add_function(alloc, module, shared, &types, function)?;
     }
     Ok(())
 }
@@ -227,6 +244,16 @@ pub fn add_file(
         return Err(BuildErr::NotYet);
     };
     module.set_name(name.as_str())?;
-    add_structs(alloc, module, bytes, said.structs.as_slice())?;
-    add_functions(alloc, module, bytes, said.functions.as_slice())
+    let structs = said.structs.as_slice();
+    add_structs(alloc, module, bytes, structs)?;
+    let table = said.consts.as_slice();
+    let numbers = add_consts(alloc, module, bytes, table)?;
+    let consts = numbers.as_slice();
+    let shared = Shared {
+        bytes,
+        table,
+        consts,
+    };
+    let functions = said.functions.as_slice();
+    add_functions(alloc, module, &shared, functions)
 }

@@ -3,6 +3,7 @@
 ghost use Rattle.std.specs.Prelude.{◌≡◌, ◌+◌, ℕ, List, [], None, Some, Err, map, slice_get, All, OnOk, IfOk};
 ghost use Rattle.llvm_core.specs.Module.{Module};
 ghost use Rattle.llvm_core.specs.Data.{Trees};
+ghost use Rattle.ll_lines.specs.Lines.{SaidConst};
 ghost use Rattle.ll_lines.specs.declared.lines.Part.TheVariants as code_part;
 ghost use Rattle.ll_lines.specs.Views.{text_of, line_view, part_view, IsPartIn};
 ghost use Rattle.ll_bodies.specs.Meaning as meaning;
@@ -32,7 +33,7 @@ struct Behind<'a> {
 
 /// Whether the line ends its block.
 fn ends_block(line: &Line) -> bool
-    ensures { (bytes : List ℕ) (t : Trees) → result ≡ ends_block (line_view bytes t line.now) }
+    ensures { (bytes : List ℕ) (t : Trees) (table : List SaidConst) → result ≡ ends_block (line_view bytes t table line.now) }
 {
     match &line.inst {
         Inst::Phi(_, _) => false,
@@ -44,9 +45,9 @@ impl<'a> Behind<'a> {
     /// Makes a block without a label of the lines, where there are any.
     fn put_unlabelled(&mut self) -> Result<(), BuildErr>
         requires { BeginsWithLine self.old.lines.now }
-        ensures ok { OnOk result ((bytes : List ℕ) (t : Trees) → blocks_view bytes t self.new.blocks.items ≡ unlabelled (lines_view bytes t self.old.lines.now) (blocks_view bytes t self.old.blocks.items)) }
+        ensures ok { OnOk result ((bytes : List ℕ) (t : Trees) (table : List SaidConst) → blocks_view bytes t table self.new.blocks.items ≡ unlabelled (lines_view bytes t table self.old.lines.now) (blocks_view bytes t table self.old.blocks.items)) }
         ensures lines { self.new.lines ≡ self.old.lines }
-        ensures kept { (m : Module) → All (IsPartIn m) self.old.lines.now → All (HasLinesIn m) self.old.blocks.items → All (HasLinesIn m) self.new.blocks.items }
+        ensures kept { (m : Module) (made : ℕ) → All (IsPartIn m made) self.old.lines.now → All (HasLinesIn m made) self.old.blocks.items → All (HasLinesIn m made) self.new.blocks.items }
         ensures not_yet { ¬ (result ≡ Err BuildErr.NotYet) }
     {
         if !self.lines.is_empty() {
@@ -62,10 +63,10 @@ impl<'a> Behind<'a> {
     fn put_line(&mut self, parts: &'a [Part], at: usize, line: &Line) -> Result<(), BuildErr>
         requires line { slice_get parts.now at ≡ Some (code_part.Does line.now) }
         requires behind { IsBehind parts.now (at + 1) self.old.lines.now }
-        ensures ok { OnOk result ((bytes : List ℕ) (t : Trees) → meaning.put_line (line_view bytes t line.now) (behind_view bytes t self.old) ≡ Some (behind_view bytes t self.new)) }
+        ensures ok { OnOk result ((bytes : List ℕ) (t : Trees) (table : List SaidConst) → meaning.put_line (line_view bytes t table line.now) (behind_view bytes t table self.old) ≡ Some (behind_view bytes t table self.new)) }
         ensures behind { OnOk result (IsBehind parts.now at self.new.lines.now) }
-        ensures kept { (m : Module) → All (IsPartIn m) self.old.lines.now → All (HasLinesIn m) self.old.blocks.items → All (HasLinesIn m) self.new.blocks.items }
-        ensures not_yet { result ≡ Err BuildErr.NotYet → (bytes : List ℕ) (t : Trees) → meaning.put_line (line_view bytes t line.now) (behind_view bytes t self.old) ≡ None }
+        ensures kept { (m : Module) (made : ℕ) → All (IsPartIn m made) self.old.lines.now → All (HasLinesIn m made) self.old.blocks.items → All (HasLinesIn m made) self.new.blocks.items }
+        ensures not_yet { result ≡ Err BuildErr.NotYet → (bytes : List ℕ) (t : Trees) (table : List SaidConst) → meaning.put_line (line_view bytes t table line.now) (behind_view bytes t table self.old) ≡ None }
     {
         if ends_block(line) {
             self.put_unlabelled()?;
@@ -82,10 +83,10 @@ impl<'a> Behind<'a> {
     /// Puts a label before what is said behind it.
     fn put_label(&mut self, label: Name) -> Result<(), BuildErr>
         requires { BeginsWithLine self.old.lines.now }
-        ensures ok { OnOk result ((bytes : List ℕ) (t : Trees) → meaning.put_label (text_of bytes label) (behind_view bytes t self.old) ≡ Some (behind_view bytes t self.new)) }
+        ensures ok { OnOk result ((bytes : List ℕ) (t : Trees) (table : List SaidConst) → meaning.put_label (text_of bytes label) (behind_view bytes t table self.old) ≡ Some (behind_view bytes t table self.new)) }
         ensures lines { OnOk result (self.new.lines.now ≡ []) }
-        ensures kept { (m : Module) → All (IsPartIn m) self.old.lines.now → All (HasLinesIn m) self.old.blocks.items → All (HasLinesIn m) self.new.blocks.items }
-        ensures not_yet { result ≡ Err BuildErr.NotYet → (bytes : List ℕ) (t : Trees) → meaning.put_label (text_of bytes label) (behind_view bytes t self.old) ≡ None }
+        ensures kept { (m : Module) (made : ℕ) → All (IsPartIn m made) self.old.lines.now → All (HasLinesIn m made) self.old.blocks.items → All (HasLinesIn m made) self.new.blocks.items }
+        ensures not_yet { result ≡ Err BuildErr.NotYet → (bytes : List ℕ) (t : Trees) (table : List SaidConst) → meaning.put_label (text_of bytes label) (behind_view bytes t table self.old) ≡ None }
     {
         if self.lines.is_empty() {
             return Err(BuildErr::NotYet);
@@ -101,9 +102,9 @@ impl<'a> Behind<'a> {
 
 /// The blocks of a body.
 pub fn blocks_of<'a>(alloc: Global, parts: &'a [Part]) -> Result<Vec<SaidBlock<'a>>, BuildErr>
-    ensures ok { IfOk result (λ bs. (bytes : List ℕ) (t : Trees) → meaning.blocks_of (map (part_view bytes t) parts.now) ≡ Some (map (block_view bytes t) bs.items)) }
-    ensures lines { IfOk result (λ bs. (m : Module) → All (IsPartIn m) parts.now → All (HasLinesIn m) bs.items) }
-    ensures not_yet { result ≡ Err BuildErr.NotYet → (bytes : List ℕ) (t : Trees) → meaning.blocks_of (map (part_view bytes t) parts.now) ≡ None }
+    ensures ok { IfOk result (λ bs. (bytes : List ℕ) (t : Trees) (table : List SaidConst) → meaning.blocks_of (map (part_view bytes t table) parts.now) ≡ Some (map (block_view bytes t table) bs.items)) }
+    ensures lines { IfOk result (λ bs. (m : Module) (made : ℕ) → All (IsPartIn m made) parts.now → All (HasLinesIn m made) bs.items) }
+    ensures not_yet { result ≡ Err BuildErr.NotYet → (bytes : List ℕ) (t : Trees) (table : List SaidConst) → meaning.blocks_of (map (part_view bytes t table) parts.now) ≡ None }
 {
     let mut behind = Behind {
         lines: &[],

@@ -5,7 +5,7 @@ ghost use Rattle.ll_lines.specs.Views.{IsInstIn, IsPartIn};
 ghost use Rattle.ll_bodies.specs.Meaning as meaning;
 ghost use Rattle.ll_bodies.specs.BlockViews.{lines_of};
 ghost use Rattle.ll_bodies.specs.ScopeViews.{Takes, Refuses, Adds};
-ghost use Rattle.ll_bodies.specs.SourceViews.{IsSource, types_in, lines_in, line_scope, block_scope, block_in, param_in, param_scope, HasLinesIn, IsResultAt, IsResultAmong, IsOfBlock, IsOfBlocks, IsParamAmong};
+ghost use Rattle.ll_bodies.specs.SourceViews.{IsSource, made_in, types_in, lines_in, line_scope, block_scope, block_in, param_in, param_scope, HasLinesIn, IsResultAt, IsResultAmong, IsOfBlock, IsOfBlocks, IsParamAmong};
 ghost use Rattle.ll_bodies.specs.declared.scope.Local.TheVariants as code_local;
 
 use crate::blocks::SaidBlock;
@@ -38,7 +38,7 @@ fn define_result<'a>(
     line: &Line,
 ) -> Result<(), BuildErr>
     requires source { IsSource source.now }
-    requires line { IsInstIn source.now.module.now line.now.inst }
+    requires line { IsInstIn source.now.module.now (made_in source.now) line.now.inst }
     ensures ok { OnOk result (Takes (types_in source.now) scope.old scope.new (line_scope source.now number line.now)) }
     ensures adds { OnOk result (Adds (IsResultAt source.now number line.now) scope.old scope.new) }
     ensures not_yet { result ≡ Err BuildErr.NotYet → Refuses (types_in source.now) scope.old (line_scope source.now number line.now) }
@@ -64,7 +64,7 @@ fn define_part<'a>(
     part: &Part,
 ) -> Result<u32, BuildErr>
     requires source { IsSource source.now }
-    requires part { IsPartIn source.now.module.now part.now }
+    requires part { IsPartIn source.now.module.now (made_in source.now) part.now }
     ensures next { IfOk result (λ n. n ≡ number + length (lines_of (part.now ∷ []))) }
     ensures ok { OnOk result (Takes (types_in source.now) scope.old scope.new (λ s. meaning.lines_scope s number (lines_in source.now (part.now ∷ [])))) }
     ensures adds { OnOk result (Adds (IsResultAmong source.now number (lines_of (part.now ∷ []))) scope.old scope.new) }
@@ -88,7 +88,7 @@ pub fn define_lines<'a>(
     lines: &[Part],
 ) -> Result<u32, BuildErr>
     requires source { IsSource source.now }
-    requires lines { All (IsPartIn source.now.module.now) lines.now }
+    requires lines { All (IsPartIn source.now.module.now (made_in source.now)) lines.now }
     ensures next { IfOk result (λ n. n ≡ first + length (lines_of lines.now)) }
     ensures ok { OnOk result (Takes (types_in source.now) scope.old scope.new (λ s. meaning.lines_scope s first (lines_in source.now lines.now))) }
     ensures adds { OnOk result (Adds (IsResultAmong source.now first (lines_of lines.now)) scope.old scope.new) }
@@ -112,7 +112,7 @@ fn define_block<'a>(
     block: &SaidBlock<'a>,
 ) -> Result<u32, BuildErr>
     requires source { IsSource source.now }
-    requires lines { All (IsPartIn source.now.module.now) block.now.lines.now }
+    requires lines { All (IsPartIn source.now.module.now (made_in source.now)) block.now.lines.now }
     ensures next { IfOk result (λ n. n ≡ first + length (lines_of block.now.lines.now)) }
     ensures ok { OnOk result (Takes (types_in source.now) scope.old scope.new (block_scope source.now number first block.now)) }
     ensures adds { OnOk result (Adds (IsOfBlock source.now number first block.now) scope.old scope.new) }
@@ -133,7 +133,7 @@ pub fn define_blocks<'a>(
     blocks: &[SaidBlock<'a>],
 ) -> Result<(), BuildErr>
     requires source { IsSource source.now }
-    requires lines { All (HasLinesIn source.now.module.now) blocks.now }
+    requires lines { All (HasLinesIn source.now.module.now (made_in source.now)) blocks.now }
     ensures ok { OnOk result (Takes (types_in source.now) scope.old scope.new (λ s. meaning.blocks_scope s first_block first (map (block_in source.now) blocks.now))) }
     ensures adds { OnOk result (Adds (IsOfBlocks source.now first_block first blocks.now) scope.old scope.new) }
     ensures not_yet { result ≡ Err BuildErr.NotYet → Refuses (types_in source.now) scope.old (λ s. meaning.blocks_scope s first_block first (map (block_in source.now) blocks.now)) }

@@ -4,7 +4,7 @@ ghost use Rattle.std.specs.Prelude.{◌≡◌, None, Some, Err, IfOk, All};
 ghost use Rattle.ll_lines.specs.Views.{IsTypeIn, IsFunctionIn};
 ghost use Rattle.ll_bodies.specs.Scopes as spec;
 ghost use Rattle.ll_bodies.specs.ScopeViews.{Knows, local_at};
-ghost use Rattle.ll_bodies.specs.SourceViews.{IsSource, IsScopeIn, HasLinesIn, types_in, source_trees};
+ghost use Rattle.ll_bodies.specs.SourceViews.{IsSource, IsScopeIn, HasLinesIn, made_in, structs_in, types_in, source_trees};
 ghost use Rattle.llvm_core.specs.Bodies.{blocks_from, IsBodyOf};
 ghost use Rattle.ll_bodies.specs.FunctionViews.{function_in, function_scope, function_made, IsNamed, IsNext};
 ghost use Rattle.ll_bodies.specs.Scopes.{Key};
@@ -44,7 +44,7 @@ fn scope_of<'a>(
 ) -> Result<Scope<'a>, BuildErr>
     requires source { IsSource source.now }
     requires params { All (λ p. IsTypeIn source.now.module.now p.ty) params.now }
-    requires lines { All (HasLinesIn source.now.module.now) blocks.now }
+    requires lines { All (HasLinesIn source.now.module.now (made_in source.now)) blocks.now }
     ensures knows { IfOk result (λ scope. (s : spec.Scope) × (function_scope source.now f.0 first_block first params.now blocks.now ≡ Some s) × Knows (types_in source.now) scope s) }
     ensures sound { IfOk result (IsScopeIn source.now.module.now) }
     ensures named { IfOk result (λ scope. (k : Key) (y : Local) → local_at scope k ≡ Some y → IsNamed source.now f first_block first params.now blocks.now y) }
@@ -67,10 +67,10 @@ pub fn body_of(
     said: &Function,
 ) -> Result<Items<BodyBlock>, BuildErr>
     requires source { IsSource source.now }
-    requires said { IsFunctionIn source.now.module.now said.now }
-    ensures ok { IfOk result (λ body. function_data f.0 first_block first (function_in source.now said.now) ≡ option_map (λ name. function_made source.now f.0 said.now name (blocks_from (source_trees source.now) first_block first body)) (symbol_name (function_in source.now said.now).name)) }
+    requires said { IsFunctionIn source.now.module.now (made_in source.now) said.now }
+    ensures ok { IfOk result (λ body. function_data (structs_in source.now) f.0 first_block first (function_in source.now said.now) ≡ option_map (λ name. function_made source.now f.0 said.now name (blocks_from (source_trees source.now) first_block first body)) (symbol_name (function_in source.now said.now).name)) }
     ensures right { IfOk result (λ body. IsNext source.now.module.now f first_block first said.now → IsBodyOf source.now.module.now f body) }
-    ensures not_yet { result ≡ Err BuildErr.NotYet → function_data f.0 first_block first (function_in source.now said.now) ≡ None }
+    ensures not_yet { result ≡ Err BuildErr.NotYet → function_data (structs_in source.now) f.0 first_block first (function_in source.now said.now) ≡ None }
 {
     let blocks = blocks_of(alloc, said.body.as_slice())?;
     let scope = scope_of(

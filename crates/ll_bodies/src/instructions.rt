@@ -8,7 +8,7 @@ ghost use Rattle.ll_bodies.specs.Scopes as spec;
 ghost use Rattle.ll_bodies.specs.Meaning as meaning;
 ghost use Rattle.ll_bodies.specs.Meaning.{all_of};
 ghost use Rattle.ll_bodies.specs.ScopeViews.{Knows, Refuses};
-ghost use Rattle.ll_bodies.specs.SourceViews.{IsSource, IsRowIn, IsFittingRow, IsFitting, source_trees, types_in, entry_in, inst_in, row_in, IsScopeIn};
+ghost use Rattle.ll_bodies.specs.SourceViews.{IsSource, IsRowIn, IsFittingRow, IsFitting, source_trees, structs_in, made_in, types_in, entry_in, inst_in, row_in, IsScopeIn};
 ghost use Rattle.ll_bodies.specs.TypedViews.{IsTypedInst};
 ghost use Rattle.kinds.specs.Types.{TypeTree, VoidType};
 ghost use Rattle.kinds.specs.Typing.{fits_trees};
@@ -35,9 +35,9 @@ fn entry(
     requires source { IsSource source.now }
     requires scope { IsScopeIn source.now.module.now scope.now }
     requires ty { IsTypeIn source.now.module.now ty }
-    requires said { IsSaidIn source.now.module.now said.now.said }
-    ensures ok { IfOk result (λ e. (s : spec.Scope) → Knows (types_in source.now) scope.now s → meaning.entry s (type_at (types_in source.now) ty) (entry_in source.now said.now) ≡ Some (entry_of (source_trees source.now) e)) }
-    ensures not_yet { result ≡ Err BuildErr.NotYet → Refuses (types_in source.now) scope.now (λ s. meaning.entry s (type_at (types_in source.now) ty) (entry_in source.now said.now)) }
+    requires said { IsSaidIn source.now.module.now (made_in source.now) said.now.said }
+    ensures ok { IfOk result (λ e. (s : spec.Scope) → Knows (types_in source.now) scope.now s → meaning.entry (structs_in source.now) s (type_at (types_in source.now) ty) (entry_in source.now said.now) ≡ Some (entry_of (source_trees source.now) e)) }
+    ensures not_yet { result ≡ Err BuildErr.NotYet → Refuses (types_in source.now) scope.now (λ s. meaning.entry (structs_in source.now) s (type_at (types_in source.now) ty) (entry_in source.now said.now)) }
 {
     let value = operand(alloc, source, scope, ty, said.said)?;
     let found = block(alloc, source, scope, said.block)?;
@@ -58,9 +58,9 @@ fn all_entries(
     requires source { IsSource source.now }
     requires scope { IsScopeIn source.now.module.now scope.now }
     requires ty { IsTypeIn source.now.module.now ty }
-    requires said { All (λ e. IsSaidIn source.now.module.now e.said) said.now }
-    ensures ok { IfOk result (λ es. (s : spec.Scope) → Knows (types_in source.now) scope.now s → all_of (meaning.entry s (type_at (types_in source.now) ty)) (map (entry_in source.now) said.now) ≡ Some (map (entry_of (source_trees source.now)) es)) }
-    ensures not_yet { result ≡ Err BuildErr.NotYet → Refuses (types_in source.now) scope.now (λ s. all_of (meaning.entry s (type_at (types_in source.now) ty)) (map (entry_in source.now) said.now)) }
+    requires said { All (λ e. IsSaidIn source.now.module.now (made_in source.now) e.said) said.now }
+    ensures ok { IfOk result (λ es. (s : spec.Scope) → Knows (types_in source.now) scope.now s → all_of (meaning.entry (structs_in source.now) s (type_at (types_in source.now) ty)) (map (entry_in source.now) said.now) ≡ Some (map (entry_of (source_trees source.now)) es)) }
+    ensures not_yet { result ≡ Err BuildErr.NotYet → Refuses (types_in source.now) scope.now (λ s. all_of (meaning.entry (structs_in source.now) s (type_at (types_in source.now) ty)) (map (entry_in source.now) said.now)) }
 {
     let mut made = ShortList::zero();
     for x in said {
@@ -81,9 +81,9 @@ fn entries(
     requires source { IsSource source.now }
     requires scope { IsScopeIn source.now.module.now scope.now }
     requires ty { IsTypeIn source.now.module.now ty }
-    requires said { All (λ e. IsSaidIn source.now.module.now e.said) said.now }
-    ensures ok { IfOk result (λ es. (s : spec.Scope) → Knows (types_in source.now) scope.now s → all_of (meaning.entry s (type_at (types_in source.now) ty)) (map (entry_in source.now) said.now) ≡ Some (map (entry_of (source_trees source.now)) es)) }
-    ensures not_yet { result ≡ Err BuildErr.NotYet → Refuses (types_in source.now) scope.now (λ s. all_of (meaning.entry s (type_at (types_in source.now) ty)) (map (entry_in source.now) said.now)) }
+    requires said { All (λ e. IsSaidIn source.now.module.now (made_in source.now) e.said) said.now }
+    ensures ok { IfOk result (λ es. (s : spec.Scope) → Knows (types_in source.now) scope.now s → all_of (meaning.entry (structs_in source.now) s (type_at (types_in source.now) ty)) (map (entry_in source.now) said.now) ≡ Some (map (entry_of (source_trees source.now)) es)) }
+    ensures not_yet { result ≡ Err BuildErr.NotYet → Refuses (types_in source.now) scope.now (λ s. all_of (meaning.entry (structs_in source.now) s (type_at (types_in source.now) ty)) (map (entry_in source.now) said.now)) }
 {
     match said {
         [x] => Ok(ShortList::one(entry(alloc, source, scope, ty, x)?)),
@@ -99,11 +99,11 @@ fn entries(
 /// Whether the operands fit the row, which is asked where it is not known.
 fn fits_row(source: &Source<'_>, said: &RowLine, known: bool) -> bool
     requires source { IsSource source.now }
-    requires said { IsRowIn source.now.module.now said.now }
+    requires said { IsRowIn source.now.module.now (made_in source.now) said.now }
     requires known { IsTrue known → IsFittingRow (source_trees source.now) said.now }
     ensures { result ≡ fits_trees said.now.op (option_map (type_at (types_in source.now)) said.now.written) (map (λ (x : Typed). type_at (types_in source.now) x.ty) said.now.operands) }
 {
-    known || row_fits(source.module, said)
+    known || row_fits(source, said)
 }
 
 /// A row whose operands fit it.
@@ -116,12 +116,12 @@ fn row(
 ) -> Result<LLVMInst, BuildErr>
     requires source { IsSource source.now }
     requires scope { IsScopeIn source.now.module.now scope.now }
-    requires said { IsRowIn source.now.module.now said.now }
+    requires said { IsRowIn source.now.module.now (made_in source.now) said.now }
     requires known { IsTrue fits → IsFittingRow (source_trees source.now) said.now }
-    ensures ok { IfOk result (λ i. (s : spec.Scope) → Knows (types_in source.now) scope.now s → meaning.instruction s (row_in source.now said.now) ≡ Some (instruction_of (source_trees source.now) i)) }
+    ensures ok { IfOk result (λ i. (s : spec.Scope) → Knows (types_in source.now) scope.now s → meaning.instruction (structs_in source.now) s (row_in source.now said.now) ≡ Some (instruction_of (source_trees source.now) i)) }
     ensures typed { IfOk result (λ i. (ty : LLVMType) → IsTypedInst source.now.module.now ty i) }
     ensures fits { OnOk result (IsFittingRow (source_trees source.now) said.now) }
-    ensures not_yet { result ≡ Err BuildErr.NotYet → Refuses (types_in source.now) scope.now (λ s. meaning.instruction s (row_in source.now said.now)) }
+    ensures not_yet { result ≡ Err BuildErr.NotYet → Refuses (types_in source.now) scope.now (λ s. meaning.instruction (structs_in source.now) s (row_in source.now said.now)) }
 {
     let named = operands(alloc, source, scope, said.operands.as_slice())?;
     let blocks = targets(alloc, source, scope, said.targets.as_slice())?;
@@ -146,12 +146,12 @@ pub(crate) fn instruction(
 ) -> Result<LLVMInst, BuildErr>
     requires source { IsSource source.now }
     requires scope { IsScopeIn source.now.module.now scope.now }
-    requires inst { IsInstIn source.now.module.now inst.now }
+    requires inst { IsInstIn source.now.module.now (made_in source.now) inst.now }
     requires known { IsTrue fits → IsFitting (source_trees source.now) inst.now }
-    ensures ok { IfOk result (λ i. (s : spec.Scope) → Knows (types_in source.now) scope.now s → meaning.instruction s (inst_in source.now inst.now) ≡ Some (instruction_of (source_trees source.now) i)) }
+    ensures ok { IfOk result (λ i. (s : spec.Scope) → Knows (types_in source.now) scope.now s → meaning.instruction (structs_in source.now) s (inst_in source.now inst.now) ≡ Some (instruction_of (source_trees source.now) i)) }
     ensures typed { IfOk result (λ i. (ty : LLVMType) → type_at (types_in source.now) ty ≡ option_map_or (λ (τ : TypeTree). τ) (meaning.result_type (inst_in source.now inst.now)) VoidType → IsTypedInst source.now.module.now ty i) }
     ensures fits { OnOk result (IsFitting (source_trees source.now) inst.now) }
-    ensures not_yet { result ≡ Err BuildErr.NotYet → Refuses (types_in source.now) scope.now (λ s. meaning.instruction s (inst_in source.now inst.now)) }
+    ensures not_yet { result ≡ Err BuildErr.NotYet → Refuses (types_in source.now) scope.now (λ s. meaning.instruction (structs_in source.now) s (inst_in source.now inst.now)) }
 {
     match inst {
         Inst::Phi(ty, said) => {

@@ -5,6 +5,7 @@ pub mod adding;
 pub mod blocks;
 pub mod bodies;
 pub mod build_err;
+pub mod constants;
 pub mod definitions;
 pub mod functions;
 pub mod instructions;

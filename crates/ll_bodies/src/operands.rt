@@ -7,21 +7,22 @@ ghost use Rattle.llvm_core.specs.Module.{Module};
 ghost use Rattle.llvm_core.specs.Sound.{IsModule};
 ghost use Rattle.llvm_core.specs.Data.{type_at, const_at, const_type, trees_of, operand_of};
 ghost use Rattle.llvm_core.specs.Data as trees;
-ghost use Rattle.ll_lines.specs.Lines as said;
-ghost use Rattle.ll_lines.specs.Views.{text_of, IsTypeIn, IsSaidIn, IsTypedIn};
+ghost use Rattle.ll_lines.specs.Lines as lines;
+ghost use Rattle.ll_lines.specs.Views.{text_of, IsTypeIn, IsConstIn, IsSaidIn, IsTypedIn};
 ghost use Rattle.ll_bodies.specs.Scopes as spec;
 ghost use Rattle.ll_bodies.specs.Scopes.{local_of, value_of_type, option_block, block_of};
 ghost use Rattle.ll_bodies.specs.Meaning as meaning;
 ghost use Rattle.ll_bodies.specs.Meaning.{all_of};
 ghost use Rattle.ll_bodies.specs.ScopeViews.{local_view, Knows, Refuses};
-ghost use Rattle.ll_bodies.specs.SourceViews.{IsSource, source_trees, types_in, said_in, typed_in, IsLocalIn, IsScopeIn};
+ghost use Rattle.ll_bodies.specs.SourceViews.{IsSource, source_trees, structs_in, made_in, constant_in, types_in, said_in, typed_in, IsLocalIn, IsScopeIn};
 
 use crate::build_err::BuildErr;
+use crate::constants::number;
 use crate::names::of_local;
 use crate::results::Source;
 use crate::scope::{Local, Scope};
 use crate::written::known;
-use ll_lines::lines::{Said, Typed};
+use ll_lines::lines::{Said, SaidConst, Typed};
 use ll_lines::names::Name;
 use llvm_core::code::LLVMValue;
 use llvm_core::numbers::{LLVMBasicBlock, LLVMConst, LLVMType};
@@ -67,6 +68,19 @@ fn constant(source: &Source<'_>, ty: LLVMType, c: LLVMConst) -> Option<LLVMValue
     of_type(value, source.module.type_of(value), ty)
 }
 
+/// What a written constant means, where it means one of that type.
+fn said_constant(source: &Source<'_>, ty: LLVMType, said: SaidConst) -> Option<LLVMValue>
+    requires source { IsSource source.now }
+    requires ty { IsTypeIn source.now.module.now ty }
+    requires said { IsConstIn source.now.module.now (made_in source.now) said }
+    ensures { constant_in source.now (type_at (types_in source.now) ty) said ≡ option_map (operand_of (source_trees source.now)) result }
+{
+    match number(source.consts, said) {
+        Some(c) => constant(source, ty, c),
+        None => None,
+    }
+}
+
 /// The value that a local's token says, which is refused where it is not of the type.
 #[inline(always)]
 fn named_value(
@@ -100,12 +114,12 @@ pub fn operand(
     requires source { IsSource source.now }
     requires scope { IsScopeIn source.now.module.now scope.now }
     requires ty { IsTypeIn source.now.module.now ty }
-    requires said { IsSaidIn source.now.module.now said }
-    ensures ok { IfOk result (λ v. (s : spec.Scope) → Knows (types_in source.now) scope.now s → meaning.operand s (type_at (types_in source.now) ty) (said_in source.now said) ≡ Some (operand_of (source_trees source.now) v)) }
-    ensures not_yet { result ≡ Err BuildErr.NotYet → Refuses (types_in source.now) scope.now (λ s. meaning.operand s (type_at (types_in source.now) ty) (said_in source.now said)) }
+    requires said { IsSaidIn source.now.module.now (made_in source.now) said }
+    ensures ok { IfOk result (λ v. (s : spec.Scope) → Knows (types_in source.now) scope.now s → meaning.operand (structs_in source.now) s (type_at (types_in source.now) ty) (said_in source.now said) ≡ Some (operand_of (source_trees source.now) v)) }
+    ensures not_yet { result ≡ Err BuildErr.NotYet → Refuses (types_in source.now) scope.now (λ s. meaning.operand (structs_in source.now) s (type_at (types_in source.now) ty) (said_in source.now said)) }
 {
     match said {
-        Said::Const(c) => constant(source, ty, c).ok_or(BuildErr::NotYet),
+        Said::Const(c) => said_constant(source, ty, c).ok_or(BuildErr::NotYet),
         Said::Local(name) => named_value(alloc, source, scope, ty, name),
     }
 }
@@ -145,9 +159,9 @@ fn all_operands(
 ) -> Result<ShortList<LLVMValue>, BuildErr>
     requires source { IsSource source.now }
     requires scope { IsScopeIn source.now.module.now scope.now }
-    requires typed { All (IsTypedIn source.now.module.now) typed.now }
-    ensures ok { IfOk result (λ vs. (s : spec.Scope) → Knows (types_in source.now) scope.now s → all_of (λ (x : said.Typed). meaning.operand s x.type x.said) (map (typed_in source.now) typed.now) ≡ Some (map (operand_of (source_trees source.now)) vs)) }
-    ensures not_yet { result ≡ Err BuildErr.NotYet → Refuses (types_in source.now) scope.now (λ s. all_of (λ (x : said.Typed). meaning.operand s x.type x.said) (map (typed_in source.now) typed.now)) }
+    requires typed { All (IsTypedIn source.now.module.now (made_in source.now)) typed.now }
+    ensures ok { IfOk result (λ vs. (s : spec.Scope) → Knows (types_in source.now) scope.now s → all_of (λ (x : lines.Typed). meaning.operand (structs_in source.now) s x.type x.said) (map (typed_in source.now) typed.now) ≡ Some (map (operand_of (source_trees source.now)) vs)) }
+    ensures not_yet { result ≡ Err BuildErr.NotYet → Refuses (types_in source.now) scope.now (λ s. all_of (λ (x : lines.Typed). meaning.operand (structs_in source.now) s x.type x.said) (map (typed_in source.now) typed.now)) }
 {
     let mut values = ShortList::zero();
     for x in typed {
@@ -166,9 +180,9 @@ pub fn operands(
 ) -> Result<ShortList<LLVMValue>, BuildErr>
     requires source { IsSource source.now }
     requires scope { IsScopeIn source.now.module.now scope.now }
-    requires typed { All (IsTypedIn source.now.module.now) typed.now }
-    ensures ok { IfOk result (λ vs. (s : spec.Scope) → Knows (types_in source.now) scope.now s → all_of (λ (x : said.Typed). meaning.operand s x.type x.said) (map (typed_in source.now) typed.now) ≡ Some (map (operand_of (source_trees source.now)) vs)) }
-    ensures not_yet { result ≡ Err BuildErr.NotYet → Refuses (types_in source.now) scope.now (λ s. all_of (λ (x : said.Typed). meaning.operand s x.type x.said) (map (typed_in source.now) typed.now)) }
+    requires typed { All (IsTypedIn source.now.module.now (made_in source.now)) typed.now }
+    ensures ok { IfOk result (λ vs. (s : spec.Scope) → Knows (types_in source.now) scope.now s → all_of (λ (x : lines.Typed). meaning.operand (structs_in source.now) s x.type x.said) (map (typed_in source.now) typed.now) ≡ Some (map (operand_of (source_trees source.now)) vs)) }
+    ensures not_yet { result ≡ Err BuildErr.NotYet → Refuses (types_in source.now) scope.now (λ s. all_of (λ (x : lines.Typed). meaning.operand (structs_in source.now) s x.type x.said) (map (typed_in source.now) typed.now)) }
 {
     match typed {
         [x] => Ok(ShortList::one(operand(alloc, source, scope, x.ty, x.said)?)),

@@ -7,24 +7,28 @@ ghost use Rattle.kinds.specs.Typing.{fits_trees};
 ghost use Rattle.kinds.specs.Typing as typing;
 ghost use Rattle.llvm_core.specs.Data.{type_at, trees_of};
 ghost use Rattle.llvm_core.specs.Parts.{view};
-ghost use Rattle.llvm_core.specs.Sound.{IsModule};
-ghost use Rattle.ll_lines.specs.Views.{inst_view, IsTypeIn, IsTypedIn, IsInstIn};
+ghost use Rattle.ll_lines.specs.Views.{IsTypeIn, IsTypedIn, IsInstIn};
 ghost use Rattle.ll_bodies.specs.Meaning as meaning;
-ghost use Rattle.ll_bodies.specs.SourceViews.{IsSource, IsRowIn, IsFittingRow, IsFitting};
+ghost use Rattle.ll_bodies.specs.SourceViews.{IsSource, made_in, IsRowIn, IsFittingRow, IsFitting, inst_in};
 
 use kinds::fitting::{TypeView, fits};
 use kinds::rules::Gives;
-use ll_lines::lines::{Inst, RowLine, Typed};
+use ll_lines::lines::{ConstLine, Inst, RowLine, Typed};
 use llvm_core::module::{LLVMModule, shape_of};
-use llvm_core::numbers::LLVMType;
+use llvm_core::numbers::{LLVMConst, LLVMType};
 
-/// What the passes over the lines of a function read: the text, the module, and the numbers of `i1` and of void in it.
+/// What the passes over the lines of a function read: the text, the module, the numbers of `i1` and of void in it, and the constants
+/// that are made of others, with the number of what each means in the module.
 #[derive(Drop)]
 pub struct Source<'a> {
     pub bytes: &'a [u8],
     pub module: &'a LLVMModule,
     pub bit: LLVMType,
     pub void: LLVMType,
+    /// The constants of the file that are made of others, each behind those that it is made of.
+    pub table: &'a [ConstLine],
+    /// What each of them is in the module; none where it means no constant.
+    pub consts: &'a [Option<LLVMConst>],
 }
 
 /// A type as rules see it.
@@ -53,12 +57,13 @@ fn type_nth(operands: &[Typed], place: usize) -> Option<LLVMType>
 
 /// Whether the operands fit the row.
 #[inline(always)]
-pub fn row_fits(module: &LLVMModule, row: &RowLine) -> bool
-    requires sound { IsModule module.now }
-    requires row { IsRowIn module.now row.now }
-    ensures { result ≡ fits_trees row.now.op (option_map (type_at (trees_of module.now).types) row.now.written) (map (λ (x : Typed). type_at (trees_of module.now).types x.ty) row.now.operands) }
+pub fn row_fits(source: &Source<'_>, row: &RowLine) -> bool
+    requires source { IsSource source.now }
+    requires row { IsRowIn source.now.module.now (made_in source.now) row.now }
+    ensures { result ≡ fits_trees row.now.op (option_map (type_at (trees_of source.now.module.now).types) row.now.written) (map (λ (x : Typed). type_at (trees_of source.now.module.now).types x.ty) row.now.operands) }
 {
     let operands = row.operands.as_slice();
+    let module = source.module;
     fits(
         row.op.rule(),
         operands.len(),
@@ -92,7 +97,7 @@ fn given(
 /// The type of the result of a row whose operands fit, none where it has none.
 fn row_gives(source: &Source<'_>, row: &RowLine) -> Option<LLVMType>
     requires source { IsSource source.now }
-    requires row { IsRowIn source.now.module.now row.now }
+    requires row { IsRowIn source.now.module.now (made_in source.now) row.now }
     ensures ty { IsFittingRow (trees_of source.now.module.now) row.now → typing.typed row.now.op (option_map (type_at (trees_of source.now.module.now).types) row.now.written) (map (λ (x : Typed). type_at (trees_of source.now.module.now).types x.ty) row.now.operands) ≡ option_map (type_at (trees_of source.now.module.now).types) result }
     ensures within { IfSome result (IsTypeIn source.now.module.now) }
 {
@@ -105,11 +110,11 @@ fn row_gives(source: &Source<'_>, row: &RowLine) -> Option<LLVMType>
 /// The type of a row's result, none where it has none or its operands do not fit.
 fn row_result(source: &Source<'_>, row: &RowLine) -> Option<LLVMType>
     requires source { IsSource source.now }
-    requires row { IsRowIn source.now.module.now row.now }
+    requires row { IsRowIn source.now.module.now (made_in source.now) row.now }
     ensures ty { typing.typed row.now.op (option_map (type_at (trees_of source.now.module.now).types) row.now.written) (map (λ (x : Typed). type_at (trees_of source.now.module.now).types x.ty) row.now.operands) ≡ option_map (type_at (trees_of source.now.module.now).types) result }
     ensures within { IfSome result (IsTypeIn source.now.module.now) }
 {
-    if !row_fits(source.module, row) {
+    if !row_fits(source, row) {
         return None;
     }
     row_gives(source, row)
@@ -118,8 +123,8 @@ fn row_result(source: &Source<'_>, row: &RowLine) -> Option<LLVMType>
 /// The type of the result of a line whose operands fit, none where it has none.
 pub fn fitting_type(source: &Source<'_>, inst: &Inst) -> Option<LLVMType>
     requires source { IsSource source.now }
-    requires inst { IsInstIn source.now.module.now inst.now }
-    ensures ty { IsFitting (trees_of source.now.module.now) inst.now → (bytes : List ℕ) → meaning.result_type (inst_view bytes (trees_of source.now.module.now) inst.now) ≡ option_map (type_at (trees_of source.now.module.now).types) result }
+    requires inst { IsInstIn source.now.module.now (made_in source.now) inst.now }
+    ensures ty { IsFitting (trees_of source.now.module.now) inst.now → meaning.result_type (inst_in source.now inst.now) ≡ option_map (type_at (trees_of source.now.module.now).types) result }
     ensures within { IfSome result (IsTypeIn source.now.module.now) }
 {
     match inst {
@@ -131,8 +136,8 @@ pub fn fitting_type(source: &Source<'_>, inst: &Inst) -> Option<LLVMType>
 /// The type of a line's result, none where it has none or its operands do not fit.
 pub fn result_type(source: &Source<'_>, inst: &Inst) -> Option<LLVMType>
     requires source { IsSource source.now }
-    requires inst { IsInstIn source.now.module.now inst.now }
-    ensures ty { (bytes : List ℕ) → meaning.result_type (inst_view bytes (trees_of source.now.module.now) inst.now) ≡ option_map (type_at (trees_of source.now.module.now).types) result }
+    requires inst { IsInstIn source.now.module.now (made_in source.now) inst.now }
+    ensures ty { meaning.result_type (inst_in source.now inst.now) ≡ option_map (type_at (trees_of source.now.module.now).types) result }
     ensures within { IfSome result (IsTypeIn source.now.module.now) }
 {
     match inst {

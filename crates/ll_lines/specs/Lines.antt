@@ -4,14 +4,31 @@ use Rattle.kinds.specs.declared.op.Op.{Op}
 use Rattle.kinds.specs.Types.{TypeTree}
 use Rattle.kinds.specs.Structs.{StructBody}
 use Rattle.llvm_core.specs.Data.{ConstTree}
+use Rattle.ll_lines.specs.declared.lines.Brackets.{Brackets}
 
 abbrev pub Text : Type 0
 Text = List ℕ
 
+mutual
+  -- a constant as it is written, with the type that stands before it
+  pub data SaidConst : Type 0 where
+    -- a word or an integer's digits, as the constant that they say
+    Plain : ConstTree → SaidConst
+    -- c and a text between quotes, the token
+    Chars : (type : TypeTree) → Text → SaidConst
+    -- elements between brackets
+    Listed : (type : TypeTree) → Brackets → SaidConsts → SaidConst
+    -- splat and the constant that each element is
+    Splat : (type : TypeTree) → SaidConst → SaidConst
+
+  pub data SaidConsts : Type 0 where
+    NoneSaid : SaidConsts
+    ThenSaid : SaidConst → SaidConsts → SaidConsts
+
 -- a value: % and a name or a number, or a constant
 pub data Said : Type 0 where
   Local : Text → Said
-  Const : ConstTree → Said
+  Const : SaidConst → Said
 
 -- a value with its type
 pub record Typed : Type 0 where

@@ -1,18 +1,56 @@
-//! Functions as a text says them: types and constants are numbers of the module that is read into, and what is defined in the
-//! function has its name still.
+//! Functions as a text says them: types and plain constants are numbers of the module that is read into, constants that are made of
+//! others stand in a table, since the structs that they are of may not be there yet, and what is defined in the function has its name
+//! still.
 
 use crate::names::Name;
 use kinds::op::Op;
+use kinds::types::StructLayout;
 use llvm_core::numbers::{LLVMConst, LLVMType};
 use llvm_core::structs::StructFields;
+use support::items::Items;
 use support::short_list::ShortList;
+
+/// The place of a constant in the table of a file.
+#[derive(Clone, Copy, PartialEq, Eq, Debug, Drop)]
+pub struct ConstPlace(pub u32);
+
+/// A constant, as it is written.
+#[derive(Clone, Copy, PartialEq, Eq, Debug, Drop)]
+pub enum SaidConst {
+    /// A word or an integer's digits (Language Reference, Simple Constants): a constant of the module.
+    Plain(LLVMConst),
+    /// One that is made of others, or a text (Language Reference, Complex Constants): it stands in the table of the file.
+    Made(ConstPlace),
+}
+
+/// What the elements of a constant stand between (Language Reference, Complex Constants).
+#[derive(Clone, Copy, PartialEq, Eq, Debug, Drop)]
+pub enum Brackets {
+    /// `[` and `]`.
+    Array,
+    /// `<` and `>`.
+    Vector,
+    /// `{` and `}`, or `<{` and `}>` where it is packed.
+    Struct(StructLayout),
+}
+
+/// A constant of a type that is made of others, which are of the module or stand before it in the table.
+#[derive(Drop)]
+pub enum ConstLine {
+    /// `c` and a text between quotes, the token.
+    Chars(LLVMType, Name),
+    /// Its elements in order.
+    Listed(LLVMType, Brackets, Items<SaidConst>),
+    /// `splat` and the constant that each element is.
+    Splat(LLVMType, SaidConst),
+}
 
 /// A value, as it is written.
 #[derive(Clone, Copy, PartialEq, Eq, Debug, Drop)]
 pub enum Said {
     /// `%` and a name or a number.
     Local(Name),
-    Const(LLVMConst),
+    Const(SaidConst),
 }
 
 /// A value with its type.
@@ -93,6 +131,8 @@ pub struct StructLine {
 pub struct File {
     /// The name of the module, between quotes.
     pub source: Option<Name>,
+    /// The constants that are made of others, each behind its parts.
+    pub consts: Vec<ConstLine>,
     pub structs: Vec<StructLine>,
     pub functions: Vec<Function>,
 }

@@ -15,7 +15,7 @@ use std::borrow::CowStr;
 use std::str;
 
 /// What stands between the quotes of a text that begins and ends with one.
-fn inside(text: &[u8]) -> Option<&[u8]>
+pub fn inside(text: &[u8]) -> Option<&[u8]>
     ensures { option_map (λ t. t.now) result ≡ inside text.now }
 {
     match text {

@@ -1,35 +1,12 @@
--- The fields of a struct, printed one after another, and how far their types can lead.
-use Rattle.std.proofs.Common.{◌≡◌, ◌<◌, ◌≤◌, ℕ, zero, suc, max, List, [], ◌∷◌, ◌++◌, All, codes, length, map, get_or, refl, ap, ◌∙◌, append_assoc, arith}
+-- The fields of a struct, printed one after another.
+use Rattle.std.proofs.Common.{◌≡◌, ℕ, zero, suc, List, [], ◌∷◌, ◌++◌, codes, length, map, refl, ap, ◌∙◌, append_assoc}
 use Rattle.std.specs.List.{flat_map}
-use Rattle.std.proofs.lemmas.List.Elements.{All-head, All-tail, All-weaker}
 use Rattle.kinds.specs.declared.types.StructLayout.{StructLayout}
 use Rattle.llvm_core.specs.declared.numbers.LLVMType.{LLVMType}
 use Rattle.llvm_core.specs.Data.{TypeTree, StructType, type_at, types_at}
 use Rattle.ll_print.specs.Printing.{type_text, before_brace, struct_open, struct_close, fields_text, next_fields_text}
 use Rattle.ll_print.specs.Parts.{gap_text, close_text}
 use Rattle.ll_print.proofs.StrungLaws.{strung, piece, behind_comma}
-
--- ---- how far
-
--- the least number that all of these are below
-abbrev pub reach : List LLVMType → ℕ
-reach [] = 0
-reach (t ∷ ts) = max (suc t.0) (reach ts)
-
-pub reach_most : (n : ℕ) (ts : List LLVMType) → All (λ (t : LLVMType). t.0 < n) ts → reach ts ≤ n
-reach_most n [] h = omega arith
-reach_most n (t ∷ ts) h = omega (arith, All-head (λ (t : LLVMType). t.0 < n) t ts h, reach_most n ts (All-tail (λ (t : LLVMType). t.0 < n) t ts h))
-
-pub reach_at : (ts : List LLVMType) (i : ℕ) (d : LLVMType) → i < length ts → (get_or ts i d).0 < reach ts
-reach_at [] i d h = absurd (omega arith)
-reach_at (t ∷ ts) zero d h = omega arith
-reach_at (t ∷ ts) (suc i) d h = omega (arith, reach_at ts i d (omega arith))
-
--- parts of an earlier type are there
-pub parts_there : (n m : ℕ) (ts : List LLVMType) → n < m → All (λ (t : LLVMType). t.0 < n) ts → All (λ (t : LLVMType). t.0 < m) ts
-parts_there n m ts lt h = All-weaker (λ (t : LLVMType). t.0 < n) (λ (t : LLVMType). t.0 < m) (λ t k. omega (arith, lt, k)) ts h
-
--- ---- their text
 
 abbrev pub first_field : TypeTree → List ℕ
 first_field t = codes " " ++ type_text t

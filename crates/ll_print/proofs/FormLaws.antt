@@ -25,7 +25,7 @@ use Rattle.llvm_core.specs.Module.{Module}
 use Rattle.llvm_core.specs.Code.{param_names}
 use Rattle.llvm_core.specs.Parts.{IsValue, IsBlock, IsEntry, HasValues}
 use Rattle.llvm_core.specs.Sound.{IsModule}
-use Rattle.llvm_core.specs.Data.{TypeTree, Operand, Function, type_at, trees_of, operand_of, entry_of, instruction_of, placed_of, block_of, block_at, function_of, param_type, data_of}
+use Rattle.llvm_core.specs.Data.{TypeTree, Operand, Function, type_at, trees_of, operand_of, entry_of, instruction_of, placed_of, block_of, block_at, function_of, param_type, data_of, structs_of}
 use Rattle.kinds.specs.Types.{result_of}
 use Rattle.llvm_core.specs.Form.{IsOperandOf, IsOperand, IsTarget, FitsEdges, IsFormInstruction, IsFormPlaced, IsFormBlock, IsFormFunction}
 use Rattle.llvm_core.proofs.DataLemmas.{within_at, block_of_number, inst_of_number, function_count}
@@ -173,13 +173,13 @@ head_put m f returned name r o0 o1 o2 o3 o4 o5 result named e1 e2 e3 e4 e5 =
 pub function_put : (m : Module) (f : LLVMFunction) (blocks : List LLVMBasicBlock) (r : Result (Unit {0}) AllocError) (o0 o1 o2 o3 o4 o5 : List ℕ)
     → option_map (λ (x : FunctionData). x.blocks) (slice_get m.functions f.0) ≡ Some blocks → All (λ (b : LLVMBasicBlock). b.0 < length m.blocks) blocks
     → o1 ≡ o0 ++ head_text (function_in m f) → o2 ≡ o1 ++ params_text (function_in m f) 0 (function_in m f).params → o3 ≡ o2 ++ codes ") {\n" → o4 ≡ o3 ++ all_lines_of m (function_in m f) blocks → OnOk r (o5 ≡ o4 ++ codes "}\n")
-    → OnOk r (o5 ≡ o0 ++ function_text (function_in m f))
+    → OnOk r (o5 ≡ o0 ++ function_text (structs_of m) (function_in m f))
 function_put m f blocks r o0 o1 o2 o3 o4 o5 held within e1 e2 e3 e4 e5 =
     let d = function_in m f in
     let more = params_text d 0 d.params in
-    let lines = blocks_text d d.blocks in
+    let lines = blocks_text (structs_of m) d d.blocks in
     let blocks_are : blocks ≡ (get_or m.functions f.0 no_function).blocks = sym (read (λ (x : FunctionData). x.blocks) m.functions f.0 no_function blocks held) in
-    let lines_are : all_lines_of m d blocks ≡ lines = all_lines m d blocks within ∙ ap (λ (bs : List LLVMBasicBlock). blocks_text d (filter_map (block_at (trees_of m) m.blocks m.insts) bs)) blocks_are in
+    let lines_are : all_lines_of m d blocks ≡ lines = all_lines m d blocks within ∙ ap (λ (bs : List LLVMBasicBlock). blocks_text (structs_of m) d (filter_map (block_at (trees_of m) m.blocks m.insts) bs)) blocks_are in
     let two = appended_twice o0 o1 o2 (head_text d) more e1 e2 in
     let three = appended_twice o0 o2 o3 (head_text d ++ more) (codes ") {\n") two e3 in
     let four = appended_twice o0 o3 o4 (head_text d ++ more ++ codes ") {\n") lines three (e4 ∙ ap (λ (t : List ℕ). o3 ++ t) lines_are) in
@@ -203,19 +203,19 @@ functions_have m P each = λ i d l.
     subst P is (each i within)
 
 -- one function further
-pub module_more : (m : Module) (f : ℕ) (old new start : List ℕ) → f < length m.functions → old ≡ start ++ flat_map function_text (take f (data_of m).functions) → new ≡ old ++ function_text (function_in m (record { 0 = f }))
-    → new ≡ start ++ flat_map function_text (take (f + 1) (data_of m).functions)
+pub module_more : (m : Module) (f : ℕ) (old new start : List ℕ) → f < length m.functions → old ≡ start ++ flat_map (function_text (structs_of m)) (take f (data_of m).functions) → new ≡ old ++ function_text (structs_of m) (function_in m (record { 0 = f }))
+    → new ≡ start ++ flat_map (function_text (structs_of m)) (take (f + 1) (data_of m).functions)
 module_more m f old new start lt e1 e2 =
     let d = function_in m (record { 0 = f }) in
     let count = function_count m in
     let within : f < length (data_of m).functions = omega (arith, count, lt) in
     let here : get_or (data_of m).functions f d ≡ d = same_Some _ d (sym (slice_get-get_or (data_of m).functions f d within) ∙ function_there m (record { 0 = f }) lt) in
-    let more = flat_map-take_more function_text (data_of m).functions f d within ∙ ap (λ (g : Function). flat_map function_text (take f (data_of m).functions) ++ function_text g) here in
-    rw (e2, e1, more) (append_assoc start (flat_map function_text (take f (data_of m).functions)) (function_text d))
+    let more = flat_map-take_more (function_text (structs_of m)) (data_of m).functions f d within ∙ ap (λ (g : Function). flat_map (function_text (structs_of m)) (take f (data_of m).functions) ++ function_text (structs_of m) g) here in
+    rw (e2, e1, more) (append_assoc start (flat_map (function_text (structs_of m)) (take f (data_of m).functions)) (function_text (structs_of m) d))
 
 -- all functions
-pub module_all : (m : Module) (f : ℕ) (new start : List ℕ) → length m.functions ≤ f → new ≡ start ++ flat_map function_text (take f (data_of m).functions) → new ≡ start ++ flat_map function_text (data_of m).functions
+pub module_all : (m : Module) (f : ℕ) (new start : List ℕ) → length m.functions ≤ f → new ≡ start ++ flat_map (function_text (structs_of m)) (take f (data_of m).functions) → new ≡ start ++ flat_map (function_text (structs_of m)) (data_of m).functions
 module_all m f new start ge e =
     let count = function_count m in
     let all : take f (data_of m).functions ≡ (data_of m).functions = take_all f (data_of m).functions (omega (arith, count, ge)) in
-    e ∙ ap (λ (fs : List Function). start ++ flat_map function_text fs) all
+    e ∙ ap (λ (fs : List Function). start ++ flat_map (function_text (structs_of m)) fs) all

@@ -1,4 +1,5 @@
 -- The lemmas of the crate.
+pub mod ConstLaws
 pub mod CountLaws
 pub mod DigitLaws
 pub mod EdgeLaws
@@ -8,6 +9,7 @@ pub mod NumberLaws
 pub mod OwnLaws
 pub mod PartLaws
 pub mod PositionLaws
+pub mod ReachLaws
 pub mod StructLaws
 pub mod SpelledLaws
 pub mod StrungLaws

@@ -20,7 +20,7 @@ use Rattle.llvm_core.specs.Module.{Module}
 use Rattle.llvm_core.specs.Code.{param_names}
 use Rattle.llvm_core.specs.Sound.{IsModule}
 use Rattle.llvm_core.specs.Parts.{value_type, kind_params}
-use Rattle.llvm_core.specs.Data.{VoidType, Parameter, Result, Placed, Block, Function, type_at, trees_of, operand_of, operand_type, param_type, placed_in}
+use Rattle.llvm_core.specs.Data.{VoidType, Parameter, Result, Placed, Block, Function, type_at, trees_of, operand_of, operand_type, param_type, placed_in, structs_of}
 use Rattle.llvm_core.specs.Form.{HasNumber}
 use Rattle.kinds.specs.Held.{is_void}
 use Rattle.ll_print.specs.declared.numbers.Numbers.{Numbers}
@@ -56,7 +56,7 @@ thing_local m n p name h =
     number_is xs count noted = rw (count, noted) refl
 
 pub param_operand : (m : Module) (n : Numbers) (f : LLVMFunction) (place : ℕ) (name : List ℕ) → IsPrinting m n → f ≡ n.function → slice_get (param_names m.functions f) place ≡ Some name
-    → operand_text (function_in m n.function) (Parameter f.0 place) ≡ named_text name (number_at n (P.Param place))
+    → operand_text (structs_of m) (function_in m n.function) (Parameter f.0 place) ≡ named_text name (number_at n (P.Param place))
 param_operand m n f place name h same at =
     let g = function_in m n.function in
     let read = param_read m n.function place name (subst (λ (h : LLVMFunction). slice_get (param_names m.functions h) place ≡ Some name) same at) in
@@ -64,7 +64,7 @@ param_operand m n f place name h same at =
 
 -- what is printed of a result
 pub result_operand : (m : Module) (n : Numbers) (i : LLVMInstRef) (name : List ℕ) → IsPrinting m n → HasNumber i.0 (placed_in (function_in m n.function)) → option_map (λ (x : InstData). x.name) (slice_get m.insts i.0) ≡ Some name
-    → operand_text (function_in m n.function) (Result i.0) ≡ named_text name (number_at n (P.Result i))
+    → operand_text (structs_of m) (function_in m n.function) (Result i.0) ≡ named_text name (number_at n (P.Result i))
 result_operand m n i name h has named =
     let x = read_item (λ (x : InstData). x.name) m.insts i.0 name named in
     let g = function_in m n.function in
@@ -141,10 +141,10 @@ type_is m n (V.Inst i) t h own typed =
 
 -- a type and an operand of it
 pub value_put : (m : Module) (n : Numbers) (v : LLVMValue) (t : LLVMType) (old typed spaced new : List ℕ) → IsPrinting m n → IsOwn m n.function v → value_type m v ≡ Some t
-    → typed ≡ old ++ type_text (type_at (trees_of m).types t) → spaced ≡ typed ++ 32 ∷ [] → new ≡ spaced ++ operand_text (function_in m n.function) (operand_of (trees_of m) v)
-    → new ≡ old ++ value_text (function_in m n.function) (operand_of (trees_of m) v)
+    → typed ≡ old ++ type_text (type_at (trees_of m).types t) → spaced ≡ typed ++ 32 ∷ [] → new ≡ spaced ++ operand_text (structs_of m) (function_in m n.function) (operand_of (trees_of m) v)
+    → new ≡ old ++ value_text (structs_of m) (function_in m n.function) (operand_of (trees_of m) v)
 value_put m n v t old typed spaced new h own is e1 e2 e3 =
-    joined old typed spaced new _ _ (operand_text (function_in m n.function) (operand_of (trees_of m) v)) (ap type_text (type_is m n v t h own is)) e1 e2 e3
+    joined old typed spaced new _ _ (operand_text (structs_of m) (function_in m n.function) (operand_of (trees_of m) v)) (ap type_text (type_is m n v t h own is)) e1 e2 e3
   where
     joined : (old typed spaced new a b d : List ℕ) → a ≡ b → typed ≡ old ++ b → spaced ≡ typed ++ 32 ∷ [] → new ≡ spaced ++ d → new ≡ old ++ ((a ++ 32 ∷ []) ++ d)
     joined old typed spaced new a b d e e1 e2 e3 = rw (e3, e2, e1, e) (simp append_assoc)

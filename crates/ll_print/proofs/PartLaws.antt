@@ -22,7 +22,7 @@ use Rattle.llvm_core.specs.Parts.{IsTypeOver, type_params, shape_of}
 use Rattle.kinds.specs.Types.{shape, result_of}
 use Rattle.kinds.specs.Fitting.{is_nothing}
 use Rattle.kinds.specs.Held.{is_void}
-use Rattle.llvm_core.specs.Data.{TypeTree, FunctionType, Placed, Block, Function, type_at, types_at, trees_of, placed_of, placed_at, block_of, block_at, data_of, param_type}
+use Rattle.llvm_core.specs.Data.{TypeTree, FunctionType, Placed, Block, Function, type_at, types_at, trees_of, placed_of, placed_at, block_of, block_at, data_of, structs_of, param_type}
 use Rattle.llvm_core.proofs.DataLemmas.{type_tree_of, function_tree_of, function_at}
 use Rattle.llvm_core.proofs.RuleLaws.{shape_kept}
 use Rattle.ll_print.specs.Printing.{Unnamed, BlockOf, ResultOf, local_text, if_unnamed, unnamed_result, unnamed_block, block_ref, entry_label_text, placed_text, block_text, blocks_text, gives_text}
@@ -98,8 +98,8 @@ pub lines_of-block : (m : Module) (f : Function) (b : LLVMBasicBlock) (name : Li
 lines_of-block m f b name insts named held =
     let x = read_item (λ (x : BlockData). x.name) m.blocks b.0 name named in
     let same : x.0.insts ≡ insts = same_Some x.0.insts insts (ap (option_map (λ (x : BlockData). x.insts)) (sym x.1) ∙ held) in
-    ap (λ (o : Option Block). option_map_or (block_text f) o []) (block_there m b x.0 x.1)
-    ∙ ap (λ (t : List ℕ). codes "\n" ++ (drop 1 (block_ref f b.0) ++ codes ":\n") ++ t) (flat_map-filter_map (placed_at (trees_of m) m.insts) (placed_text f) x.0.insts)
+    ap (λ (o : Option Block). option_map_or (block_text (structs_of m) f) o []) (block_there m b x.0 x.1)
+    ∙ ap (λ (t : List ℕ). codes "\n" ++ (drop 1 (block_ref f b.0) ++ codes ":\n") ++ t) (flat_map-filter_map (placed_at (trees_of m) m.insts) (placed_text (structs_of m) f) x.0.insts)
     ∙ rw same refl
 
 -- the label line of the first block of a function, by its number and its name
@@ -119,13 +119,13 @@ entry_lines_of-block m f b name insts named held =
     let x = read_item (λ (x : BlockData). x.name) m.blocks b.0 name named in
     let same : x.0.insts ≡ insts = same_Some x.0.insts insts (ap (option_map (λ (x : BlockData). x.insts)) (sym x.1) ∙ held) in
     let block = block_of (trees_of m) m.insts b x.0 in
-    ap (λ (o : Option Block). option_map_or (entry_lines f) o []) (block_there m b x.0 x.1)
-    ∙ ap (λ (t : List ℕ). t ++ flat_map (placed_text f) block.instructions) (entry_head_is f block x.0.name)
-    ∙ ap (λ (t : List ℕ). entry_head f b.0 x.0.name ++ t) (flat_map-filter_map (placed_at (trees_of m) m.insts) (placed_text f) x.0.insts)
+    ap (λ (o : Option Block). option_map_or (entry_lines (structs_of m) f) o []) (block_there m b x.0 x.1)
+    ∙ ap (λ (t : List ℕ). t ++ flat_map (placed_text (structs_of m) f) block.instructions) (entry_head_is f block x.0.name)
+    ∙ ap (λ (t : List ℕ). entry_head f b.0 x.0.name ++ t) (flat_map-filter_map (placed_at (trees_of m) m.insts) (placed_text (structs_of m) f) x.0.insts)
     ∙ rw (x.2, same) refl
 
 -- the lines of blocks that are there
-pub all_lines : (m : Module) (f : Function) (bs : List LLVMBasicBlock) → All (λ (b : LLVMBasicBlock). b.0 < length m.blocks) bs → all_lines_of m f bs ≡ blocks_text f (filter_map (block_at (trees_of m) m.blocks m.insts) bs)
+pub all_lines : (m : Module) (f : Function) (bs : List LLVMBasicBlock) → All (λ (b : LLVMBasicBlock). b.0 < length m.blocks) bs → all_lines_of m f bs ≡ blocks_text (structs_of m) f (filter_map (block_at (trees_of m) m.blocks m.insts) bs)
 all_lines m f [] within = refl
 all_lines m f (b ∷ bs) within = by (slice_get m.blocks b.0) refl (item_there m.blocks b.0 (All-head (λ (b : LLVMBasicBlock). b.0 < length m.blocks) b bs within))
   where
@@ -133,12 +133,12 @@ all_lines m f (b ∷ bs) within = by (slice_get m.blocks b.0) refl (item_there m
     rest = filter_map (block_at (trees_of m) m.blocks m.insts) bs
 
     by : (o : Option BlockData) → slice_get m.blocks b.0 ≡ o → (x : BlockData) × (slice_get m.blocks b.0 ≡ Some x)
-        → option_map_or (entry_lines f) (option_map (block_of (trees_of m) m.insts b) o) [] ++ flat_map (lines_of m f) bs ≡ blocks_text f (cons_option (option_map (block_of (trees_of m) m.insts b) o) rest)
+        → option_map_or (entry_lines (structs_of m) f) (option_map (block_of (trees_of m) m.insts b) o) [] ++ flat_map (lines_of m f) bs ≡ blocks_text (structs_of m) f (cons_option (option_map (block_of (trees_of m) m.insts b) o) rest)
     by None e x = let g : None ≡ Some x.0 = sym e ∙ x.1 in absurd cc
     by (Some x) e y =
         let block = block_of (trees_of m) m.insts b x in
-        let later : flat_map (lines_of m f) bs ≡ flat_map (block_text f) rest = sym (flat_map-filter_map (block_at (trees_of m) m.blocks m.insts) (block_text f) bs) in
-        ap (λ (t : List ℕ). entry_lines f block ++ t) later
+        let later : flat_map (lines_of m f) bs ≡ flat_map (block_text (structs_of m) f) rest = sym (flat_map-filter_map (block_at (trees_of m) m.blocks m.insts) (block_text (structs_of m) f) bs) in
+        ap (λ (t : List ℕ). entry_lines (structs_of m) f block ++ t) later
 
 -- and its unnamed things
 pub unnamed_of-block : (m : Module) (b : LLVMBasicBlock) (name : List ℕ) (insts : List LLVMInstRef)

@@ -29,10 +29,10 @@ more_ends front text h = (front ++ h.0, ap (λ (t : Text). front ++ t) h.1 ∙ s
 brace_ends : (front : Text) → EndsLine (front ++ codes "}\n")
 brace_ends front = (front ++ codes "}", sym (append_assoc front (codes "}") (codes "\n")))
 
-functions_end : (f : Function) (fs : List Function) → EndsLine (flat_map function_text (f ∷ fs))
-functions_end f [] = subst EndsLine (sym (append-nil (function_text f)))
-    (brace_ends (codes "\ndefine " ++ type_text (result_of f.type) ++ codes " " ++ global (printed_name f.name) ++ codes "(" ++ params_text f 0 f.params ++ codes ") {\n" ++ blocks_text f f.blocks))
-functions_end f (g ∷ fs) = more_ends (function_text f) (flat_map function_text (g ∷ fs)) (functions_end g fs)
+functions_end : (own : List Struct) (f : Function) (fs : List Function) → EndsLine (flat_map (function_text own) (f ∷ fs))
+functions_end own f [] = subst EndsLine (sym (append-nil (function_text own f)))
+    (brace_ends (codes "\ndefine " ++ type_text (result_of f.type) ++ codes " " ++ global (printed_name f.name) ++ codes "(" ++ params_text f 0 f.params ++ codes ") {\n" ++ blocks_text own f f.blocks))
+functions_end own f (g ∷ fs) = more_ends (function_text own f) (flat_map (function_text own) (g ∷ fs)) (functions_end own g fs)
 
 source_ends : (n : Text) → n ≢ [] → EndsLine (source_text n)
 source_ends [] h = absurd (h refl)
@@ -49,9 +49,9 @@ front_ends : (n : Text) (ss : List Struct) → n ≢ [] → EndsLine (source_tex
 front_ends n [] h = subst EndsLine (sym (append-nil (source_text n))) (source_ends n h)
 front_ends n (s ∷ ss) h = more_ends (source_text n) (structs_text (s ∷ ss)) (more_ends (codes "\n") (flat_map struct_text (s ∷ ss)) (structs_end s ss))
 
-module_ends : (n : Text) (ss : List Struct) (fs : List Function) → n ≢ [] → EndsLine (source_text n ++ structs_text ss ++ flat_map function_text fs)
+module_ends : (n : Text) (ss : List Struct) (fs : List Function) → n ≢ [] → EndsLine (source_text n ++ structs_text ss ++ flat_map (function_text ss) fs)
 module_ends n ss [] h = subst EndsLine (sym (append-nil (source_text n ++ structs_text ss))) (front_ends n ss h)
-module_ends n ss (f ∷ fs) h = more_ends (source_text n ++ structs_text ss) (flat_map function_text (f ∷ fs)) (functions_end f fs)
+module_ends n ss (f ∷ fs) h = more_ends (source_text n ++ structs_text ss) (flat_map (function_text ss) (f ∷ fs)) (functions_end ss f fs)
 
 -- the last line of a module with a name has an end
 pub module_lines : (d : ModuleData) → d.name ≢ [] → EndsLine (module_text d)

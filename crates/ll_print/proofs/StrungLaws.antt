@@ -5,7 +5,7 @@ use Rattle.std.specs.Option.{option_map}
 use Rattle.std.proofs.lemmas.List.{append-nil, take_all, length-map}
 use Rattle.std.proofs.lemmas.Option.{slice_get-get_or, slice_get-map, slice_get_within, same_Some}
 use Rattle.support.proofs.ListLaws.{flat_map-take_more}
-use Rattle.llvm_core.specs.Data.{Operand, Function}
+use Rattle.llvm_core.specs.Data.{Operand, Function, Struct}
 use Rattle.ll_print.specs.Printing.{entry_text, entries_text, operand_text, value_text, operands_text, values_text, target_text, targets_text, comma_text}
 
 -- ---- a first item and further ones
@@ -75,18 +75,18 @@ comma_put g i x now comma new e1 e2 = joined (comma_text i) (g x) _ (comma_piece
 
 -- ---- entries, targets and operands
 
-pub entries_strung : (f : Function) (es : List (Operand × ℕ)) → strung (entry_text f) (behind_comma (entry_text f)) es ≡ entries_text f es
-entries_strung f [] = refl
-entries_strung f (e ∷ es) = refl
+pub entries_strung : (ss : List Struct) (f : Function) (es : List (Operand × ℕ)) → strung (entry_text ss f) (behind_comma (entry_text ss f)) es ≡ entries_text ss f es
+entries_strung ss f [] = refl
+entries_strung ss f (e ∷ es) = refl
 
 pub targets_strung : (f : Function) (ns : List ℕ) → strung (target_text f) (behind_comma (target_text f)) ns ≡ targets_text f ns
 targets_strung f [] = refl
 targets_strung f (n ∷ ns) = refl
 
-pub operands_strung : (f : Function) (os : List Operand) → strung (value_text f) (behind_comma (operand_text f)) os ≡ operands_text f os
-operands_strung f [] = refl
-operands_strung f (o ∷ os) = refl
+pub operands_strung : (ss : List Struct) (f : Function) (os : List Operand) → strung (value_text ss f) (behind_comma (operand_text ss f)) os ≡ operands_text ss f os
+operands_strung ss f [] = refl
+operands_strung ss f (o ∷ os) = refl
 
-pub values_strung : (f : Function) (os : List Operand) → strung (value_text f) (behind_comma (value_text f)) os ≡ values_text f os
-values_strung f [] = refl
-values_strung f (o ∷ os) = refl
+pub values_strung : (ss : List Struct) (f : Function) (os : List Operand) → strung (value_text ss f) (behind_comma (value_text ss f)) os ≡ values_text ss f os
+values_strung ss f [] = refl
+values_strung ss f (o ∷ os) = refl

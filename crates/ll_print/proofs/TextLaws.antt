@@ -1,5 +1,5 @@
 -- What is printed of a part of a module is the text of that part's data.
-use Rattle.std.proofs.Common.{◌≡◌, ◌<◌, ◌≤◌, ◌+◌, ℕ, Bool, List, [], ◌++◌, codes, length, take, get_or, slice_get, Some, ap, sym, ◌∙◌, subst}
+use Rattle.std.proofs.Common.{◌≡◌, ◌<◌, ◌≤◌, ◌+◌, ℕ, Bool, List, ◌++◌, codes, length, take, get_or, slice_get, Some, ap, sym, ◌∙◌, subst}
 use Rattle.std.specs.Prelude.{OnOk, Result, Ok, Err, if◌then◌else◌}
 use Rattle.std.specs.Result.{is_ok}
 use Rattle.std.specs.declared.alloc.AllocError.{AllocError}
@@ -12,20 +12,17 @@ use Rattle.llvm_core.specs.declared.numbers.LLVMType.{LLVMType}
 use Rattle.llvm_core.specs.declared.numbers.LLVMConst.{LLVMConst}
 use Rattle.llvm_core.specs.declared.types.LLVMTypeKind.{LLVMTypeKind}
 use Rattle.llvm_core.specs.declared.types.LLVMTypeKind.TheVariants as T
-use Rattle.llvm_core.specs.declared.consts.LLVMConstKind.TheVariants as C
 use Rattle.llvm_core.specs.Module.{Module}
 use Rattle.llvm_core.specs.Sound.{IsModule}
-use Rattle.llvm_core.specs.Consts.{IsMadeBelow}
 use Rattle.llvm_core.specs.Parts.{shape_of, const_type as kind_type}
 use Rattle.llvm_core.specs.Data.{TypeTree, type_at, type_tree, const_at, trees_of, const_type}
-use Rattle.kinds.specs.declared.fill.Fill.{Fill}
 use Rattle.kinds.specs.declared.fill.Fill.TheVariants as Z
 use Rattle.kinds.specs.Fitting.{is_pointer}
 use Rattle.kinds.specs.Types.{shape}
 use Rattle.kinds.specs.Held.{width_in}
 use Rattle.llvm_core.proofs.RuleLaws.{shape_kept}
-use Rattle.llvm_core.proofs.DataLemmas.{type_tree_of, int_tree_of, int_const_of, filled_const_of, placeholder_const_of, const_tree_of, const_type_of}
-use Rattle.ll_print.specs.Printing.{type_text, int_text, filled_text, const_text}
+use Rattle.llvm_core.proofs.DataLemmas.{type_tree_of, int_tree_of, const_type_of}
+use Rattle.ll_print.specs.Printing.{type_text, int_text, filled_text}
 use Rattle.ll_print.proofs.PartLaws.{read_item}
 
 -- the same text under another name
@@ -60,26 +57,6 @@ type_text-kind m t k s at = ap type_text (type_tree_of m t k s at)
 -- the text of an integer is that of its value at its width
 pub int_text-width : (m : Module) (t : LLVMType) (width value : ℕ) → IsModule m → slice_get m.types t.0 ≡ Some (T.Int width) → int_text (width_in (type_at (trees_of m).types t)) value ≡ int_text width value
 int_text-width m t width value s typed = ap (λ (ty : TypeTree). int_text (width_in ty) value) (int_tree_of m t width s typed)
-
--- the text of a constant is that of its kind
-pub const_text-int : (m : Module) (c : LLVMConst) (t : LLVMType) (value : ℕ) → slice_get m.consts c.0 ≡ Some (C.Int t value) → const_text (const_at (trees_of m).consts c) ≡ int_text (width_in (type_at (trees_of m).types t)) value
-const_text-int m c t value at = ap const_text (int_const_of m c t value at)
-
-pub const_text-filled : (m : Module) (c : LLVMConst) (fill : Fill) (t : LLVMType) → slice_get m.consts c.0 ≡ Some (C.Filled fill t) → const_text (const_at (trees_of m).consts c) ≡ filled_text fill (type_at (trees_of m).types t)
-const_text-filled m c fill t at = ap const_text (filled_const_of m c fill t at)
-
-pub const_text-placeholder : (m : Module) (c : LLVMConst) (number : ℕ) (t : LLVMType) → slice_get m.consts c.0 ≡ Some (C.Placeholder number t) → const_text (const_at (trees_of m).consts c) ≡ []
-const_text-placeholder m c number t at = ap const_text (placeholder_const_of m c number t at)
-
--- bytes, lists and splats have no text yet
-pub const_text-bytes : (m : Module) (c : LLVMConst) (t : LLVMType) (bytes : List ℕ) → slice_get m.consts c.0 ≡ Some (C.Bytes t bytes) → const_text (const_at (trees_of m).consts c) ≡ []
-const_text-bytes m c t bytes at = ap const_text (const_tree_of m c (C.Bytes t bytes) at tt)
-
-pub const_text-list : (m : Module) (c : LLVMConst) (t : LLVMType) (elements : List LLVMConst) → slice_get m.consts c.0 ≡ Some (C.List t elements) → IsMadeBelow c.0 (C.List t elements) → const_text (const_at (trees_of m).consts c) ≡ []
-const_text-list m c t elements at below = ap const_text (const_tree_of m c (C.List t elements) at below)
-
-pub const_text-splat : (m : Module) (c : LLVMConst) (t : LLVMType) (element : LLVMConst) → slice_get m.consts c.0 ≡ Some (C.Splat t element) → IsMadeBelow c.0 (C.Splat t element) → const_text (const_at (trees_of m).consts c) ≡ []
-const_text-splat m c t element at below = ap const_text (const_tree_of m c (C.Splat t element) at below)
 
 -- the word of zero goes by what kind the type is of
 pub filled_text-zero : (m : Module) (t : LLVMType) (k : LLVMTypeKind) (pointer : Bool) → IsModule m → slice_get m.types t.0 ≡ Some k → pointer ≡ is_pointer (shape_of k)

@@ -18,14 +18,15 @@ use Rattle.llvm_core.specs.declared.code.BlockData.{BlockData}
 use Rattle.llvm_core.specs.declared.code.InstData.{InstData}
 use Rattle.llvm_core.specs.Module.{Module}
 use Rattle.llvm_core.specs.Sound.{IsModule}
-use Rattle.llvm_core.specs.Data.{Placed, Block, Function, Struct, ModuleData, struct_of, trees_of, type_at, param_type, placed_at, block_at, function_of, placed_in}
+use Rattle.llvm_core.specs.Data.{TypeTree, ConstTree, ConstTrees, Placed, Block, Function, Struct, ModuleData, const_type, struct_of, structs_of, trees_of, type_at, param_type, placed_at, block_at, function_of, placed_in}
 use Rattle.llvm_core.specs.Form.{HasNumber}
 use Rattle.kinds.specs.declared.types.StructLayout.{StructLayout}
 use Rattle.kinds.specs.Types.{result_of}
 use Rattle.ll_literals.specs.Names.{printed_name}
 use Rattle.ll_literals.specs.Numbers.{number_limit}
+use Rattle.ll_said.specs.Said.{said_consts, brackets_of}
 use Rattle.ll_print.specs.declared.numbers.Numbers.{Numbers}
-use Rattle.ll_print.specs.Printing.{Unnamed, struct_close, unnamed_result, unnamed_block, unnamed_in, gives_text, placed_text, entry_label_text, block_text}
+use Rattle.ll_print.specs.Printing.{Unnamed, type_text, brackets_open, brackets_close, elements_text, const_text, struct_close, unnamed_result, unnamed_block, unnamed_in, gives_text, placed_text, entry_label_text, block_text}
 use Rattle.ll_print.specs.Numbering.{IsNumbering}
 
 abbrev pub no_function : FunctionData
@@ -42,24 +43,42 @@ no_struct = record { name = []; body = None }
 abbrev pub struct_in : Module → LLVMStruct → Struct
 struct_in m s = struct_of (trees_of m).types (slice_index_or m.structs s.0 no_struct)
 
+-- ---- constants
+
+-- a constant behind its type
+abbrev pub element_text : List Struct → ConstTree → List ℕ
+element_text structs c = type_text (const_type c) ++ codes " " ++ const_text structs c
+
+-- constants, each behind its type
+abbrev pub consts_text : List Struct → ConstTrees → List ℕ
+consts_text structs cs = elements_text (said_consts structs cs)
+
+-- the elements of a constant of a type, between brackets
+abbrev pub list_text : List Struct → TypeTree → ConstTrees → List ℕ
+list_text structs τ cs = brackets_open (brackets_of structs τ) ++ consts_text structs cs ++ brackets_close (brackets_of structs τ)
+
+-- a vector of which each element is that constant
+abbrev pub splat_text : List Struct → ConstTree → List ℕ
+splat_text structs c = codes "splat (" ++ element_text structs c ++ codes ")"
+
 -- ---- texts of parts
 
 abbrev pub gives_of : Module → Function → LLVMInstRef → List ℕ
 gives_of m f i = option_map_or (λ (p : Placed). gives_text f p.type p) (placed_at (trees_of m) m.insts i) []
 
 abbrev pub line_of : Module → Function → LLVMInstRef → List ℕ
-line_of m f i = option_map_or (placed_text f) (placed_at (trees_of m) m.insts i) []
+line_of m f i = option_map_or (placed_text (structs_of m) f) (placed_at (trees_of m) m.insts i) []
 
 -- the lines of the first block
-abbrev pub entry_lines : Function → Block → List ℕ
-entry_lines f b = entry_label_text f b b.name ++ flat_map (placed_text f) b.instructions
+abbrev pub entry_lines : List Struct → Function → Block → List ℕ
+entry_lines structs f b = entry_label_text f b b.name ++ flat_map (placed_text structs f) b.instructions
 
 abbrev pub entry_lines_of : Module → Function → LLVMBasicBlock → List ℕ
-entry_lines_of m f b = option_map_or (entry_lines f) (block_at (trees_of m) m.blocks m.insts b) []
+entry_lines_of m f b = option_map_or (entry_lines (structs_of m) f) (block_at (trees_of m) m.blocks m.insts b) []
 
 -- the lines of a block behind the first
 abbrev pub lines_of : Module → Function → LLVMBasicBlock → List ℕ
-lines_of m f b = option_map_or (block_text f) (block_at (trees_of m) m.blocks m.insts b) []
+lines_of m f b = option_map_or (block_text (structs_of m) f) (block_at (trees_of m) m.blocks m.insts b) []
 
 -- the lines of all blocks
 abbrev pub all_lines_of : Module → Function → List LLVMBasicBlock → List ℕ

@@ -4,19 +4,19 @@ ghost use Rattle.std.specs.Prelude.{◌≡◌, ◌<◌, ◌^◌, ◌++◌, ℕ, 
 ghost use Rattle.std.specs.List.{flat_map};
 ghost use Rattle.support.specs.Appended.{Keeps};
 ghost use Rattle.llvm_core.specs.Sound.{IsModule};
-ghost use Rattle.llvm_core.specs.Data.{trees_of, type_at, param_type};
+ghost use Rattle.llvm_core.specs.Data.{trees_of, type_at, param_type, structs_of};
 ghost use Rattle.kinds.specs.Types.{result_of};
 ghost use Rattle.llvm_core.specs.Form.{IsFormFunction};
-ghost use Rattle.ll_print.specs.Printing.{type_text, head_text, params_text, function_text};
+ghost use Rattle.ll_print.specs.Printing.{head_text, params_text, function_text};
 ghost use Rattle.ll_print.specs.Numbering.{number_at};
 ghost use Rattle.ll_print.specs.Parts.{function_in, entry_lines_of, lines_of, all_lines_of, label_line, entry_label_line, OwnsBlock, IsPrinting, IsNumberable, IsSignature};
 
-use crate::instructions::{put_comma, put_lines};
+use crate::instructions::put_lines;
 use crate::numbering::numbers_of;
 use crate::numbers::Numbers;
 use crate::operands::{put_bare, put_local};
 use crate::places::Place;
-use crate::types::put_type;
+use crate::types::{put_comma, put_type};
 use ll_literals::printed::put_name;
 use llvm_core::module::LLVMModule;
 use llvm_core::numbers::{LLVMBasicBlock, LLVMFunction, LLVMType};
@@ -199,7 +199,7 @@ fn put_numbered(
     requires form { IsFormFunction (function_in m.now numbers.now.function) }
     requires few { length types.now < 2 ^ 32 }
     requires signature { IsSignature m.now numbers.now.function returned types.now }
-    ensures text { OnOk result (out.new.items ≡ out.old.items ++ function_text (function_in m.now numbers.now.function)) }
+    ensures text { OnOk result (out.new.items ≡ out.old.items ++ function_text (structs_of m.now) (function_in m.now numbers.now.function)) }
     ensures kept { Keeps out.old.items out.new.items }
 {
     let f = numbers.function;
@@ -221,7 +221,7 @@ pub fn put_function(
     requires within { f.0 < length m.now.functions }
     requires form { IsFormFunction (function_in m.now f) }
     requires few { length (function_in m.now f).params < 2 ^ 31 }
-    ensures text { OnOk result (out.new.items ≡ out.old.items ++ function_text (function_in m.now f)) }
+    ensures text { OnOk result (out.new.items ≡ out.old.items ++ function_text (structs_of m.now) (function_in m.now f)) }
     ensures kept { Keeps out.old.items out.new.items }
     // More unnamed things than there are numbers want memory.
     ensures numbers { OnOk result (IsNumberable (function_in m.now f)) }

@@ -7,14 +7,14 @@ ghost use Rattle.support.specs.Appended.{Keeps};
 ghost use Rattle.llvm_core.specs.declared.code.LLVMValue.TheVariants as values;
 ghost use Rattle.llvm_core.specs.Parts.{value_type};
 ghost use Rattle.llvm_core.specs.Sound.{IsModule};
-ghost use Rattle.llvm_core.specs.Data.{trees_of, type_at, operand_of, entry_of, instruction_of};
-ghost use Rattle.ll_print.specs.Printing.{type_text, flag_text, predicate_text, entry_text, entries_text, comma_text, operands_text, values_text, to_text, flagged_text, returned_text, targets_text, row_head, row_names, instruction_text};
+ghost use Rattle.llvm_core.specs.Data.{trees_of, type_at, operand_of, entry_of, instruction_of, structs_of};
+ghost use Rattle.ll_print.specs.Printing.{type_text, flag_text, predicate_text, entry_text, entries_text, operands_text, values_text, to_text, flagged_text, returned_text, targets_text, row_head, row_names, instruction_text};
 ghost use Rattle.ll_print.specs.Parts.{function_in, gives_of, line_of, IsOwn, IsOwnBlock, OwnsEntry, OwnsOperands, OwnsInst, IsPrinting};
 
 use crate::numbers::Numbers;
 use crate::operands::{put_block_ref, put_local, put_operand, put_value};
 use crate::places::Place;
-use crate::types::{is_void, put_type};
+use crate::types::{is_void, put_comma, put_type};
 use kinds::op::{LLVMIntPredicate, Op, OverflowFlags};
 use llvm_core::code::{LLVMInst, LLVMValue, PhiEntry, Row};
 use llvm_core::module::LLVMModule;
@@ -95,7 +95,7 @@ fn put_operands(
 ) -> Result<(), AllocError>
     requires printing { IsPrinting m.now numbers.now }
     requires own { All (IsOwn m.now numbers.now.function) operands.now }
-    ensures text { OnOk result (out.new.items ≡ out.old.items ++ operands_text (function_in m.now numbers.now.function) (map (operand_of (trees_of m.now)) operands.now)) }
+    ensures text { OnOk result (out.new.items ≡ out.old.items ++ operands_text (structs_of m.now) (function_in m.now numbers.now.function) (map (operand_of (trees_of m.now)) operands.now)) }
     ensures kept { Keeps out.old.items out.new.items }
 {
     for (place, operand) in operands.iter().enumerate() {
@@ -118,7 +118,7 @@ fn put_returned(
 ) -> Result<(), AllocError>
     requires printing { IsPrinting m.now numbers.now }
     requires own { All (IsOwn m.now numbers.now.function) operands.now }
-    ensures text { OnOk result (out.new.items ≡ out.old.items ++ returned_text (function_in m.now numbers.now.function) (map (operand_of (trees_of m.now)) operands.now)) }
+    ensures text { OnOk result (out.new.items ≡ out.old.items ++ returned_text (structs_of m.now) (function_in m.now numbers.now.function) (map (operand_of (trees_of m.now)) operands.now)) }
     ensures kept { Keeps out.old.items out.new.items }
 {
     if operands.is_empty() {
@@ -147,17 +147,6 @@ fn put_targets(
     Ok(())
 }
 
-/// A comma and a blank between parameters, or between entries.
-pub fn put_comma(place: usize, out: &mut Vec<u8>) -> Result<(), AllocError>
-    ensures text { OnOk result (out.new.items ≡ out.old.items ++ comma_text place) }
-    ensures kept { Keeps out.old.items out.new.items }
-{
-    if place > 0 {
-        out.extend_from_slice(b", ")?;
-    }
-    Ok(())
-}
-
 /// An entry of a phi.
 fn put_entry(
     m: &LLVMModule,
@@ -167,7 +156,7 @@ fn put_entry(
 ) -> Result<(), AllocError>
     requires printing { IsPrinting m.now numbers.now }
     requires own { OwnsEntry m.now numbers.now.function entry }
-    ensures text { OnOk result (out.new.items ≡ out.old.items ++ entry_text (function_in m.now numbers.now.function) (entry_of (trees_of m.now) entry)) }
+    ensures text { OnOk result (out.new.items ≡ out.old.items ++ entry_text (structs_of m.now) (function_in m.now numbers.now.function) (entry_of (trees_of m.now) entry)) }
     ensures kept { Keeps out.old.items out.new.items }
 {
     out.extend_from_slice(b"[ ")?;
@@ -186,7 +175,7 @@ fn put_entries(
 ) -> Result<(), AllocError>
     requires printing { IsPrinting m.now numbers.now }
     requires own { All (OwnsEntry m.now numbers.now.function) entries.now }
-    ensures text { OnOk result (out.new.items ≡ out.old.items ++ entries_text (function_in m.now numbers.now.function) (map (entry_of (trees_of m.now)) entries.now)) }
+    ensures text { OnOk result (out.new.items ≡ out.old.items ++ entries_text (structs_of m.now) (function_in m.now numbers.now.function) (map (entry_of (trees_of m.now)) entries.now)) }
     ensures kept { Keeps out.old.items out.new.items }
 {
     for (place, entry) in entries.iter().enumerate() {
@@ -207,7 +196,7 @@ fn put_phi(
     requires printing { IsPrinting m.now numbers.now }
     requires ty { ty.0 < length m.now.types }
     requires own { All (OwnsEntry m.now numbers.now.function) entries.now }
-    ensures text { OnOk result (out.new.items ≡ out.old.items ++ (codes "phi " ++ type_text (type_at (trees_of m.now).types ty) ++ codes " " ++ entries_text (function_in m.now numbers.now.function) (map (entry_of (trees_of m.now)) entries.now))) }
+    ensures text { OnOk result (out.new.items ≡ out.old.items ++ (codes "phi " ++ type_text (type_at (trees_of m.now).types ty) ++ codes " " ++ entries_text (structs_of m.now) (function_in m.now numbers.now.function) (map (entry_of (trees_of m.now)) entries.now))) }
     ensures kept { Keeps out.old.items out.new.items }
 {
     out.extend_from_slice(b"phi ")?;
@@ -257,7 +246,7 @@ fn put_values(
 ) -> Result<(), AllocError>
     requires printing { IsPrinting m.now numbers.now }
     requires own { All (IsOwn m.now numbers.now.function) operands.now }
-    ensures text { OnOk result (out.new.items ≡ out.old.items ++ values_text (function_in m.now numbers.now.function) (map (operand_of (trees_of m.now)) operands.now)) }
+    ensures text { OnOk result (out.new.items ≡ out.old.items ++ values_text (structs_of m.now) (function_in m.now numbers.now.function) (map (operand_of (trees_of m.now)) operands.now)) }
     ensures kept { Keeps out.old.items out.new.items }
 {
     for (place, operand) in operands.iter().enumerate() {
@@ -296,7 +285,7 @@ fn put_names(
     requires operands { All (IsOwn m.now numbers.now.function) row.now.operands }
     requires targets { All (IsOwnBlock m.now numbers.now.function) row.now.targets }
     requires written { IfSome row.now.written (λ t. t.0 < length m.now.types) }
-    ensures text { OnOk result (out.new.items ≡ out.old.items ++ row_names (function_in m.now numbers.now.function) row.now.op (option_map (type_at (trees_of m.now).types) row.now.written) (map (operand_of (trees_of m.now)) row.now.operands) (map (λ b. b.0) row.now.targets)) }
+    ensures text { OnOk result (out.new.items ≡ out.old.items ++ row_names (structs_of m.now) (function_in m.now numbers.now.function) row.now.op (option_map (type_at (trees_of m.now).types) row.now.written) (map (operand_of (trees_of m.now)) row.now.operands) (map (λ b. b.0) row.now.targets)) }
     ensures kept { Keeps out.old.items out.new.items }
 {
     let operands = row.operands.as_slice();
@@ -329,7 +318,7 @@ fn put_row(
     requires operands { All (IsOwn m.now numbers.now.function) row.now.operands }
     requires targets { All (IsOwnBlock m.now numbers.now.function) row.now.targets }
     requires written { IfSome row.now.written (λ t. t.0 < length m.now.types) }
-    ensures text { OnOk result (out.new.items ≡ out.old.items ++ (row_head row.now.op ++ row_names (function_in m.now numbers.now.function) row.now.op (option_map (type_at (trees_of m.now).types) row.now.written) (map (operand_of (trees_of m.now)) row.now.operands) (map (λ b. b.0) row.now.targets))) }
+    ensures text { OnOk result (out.new.items ≡ out.old.items ++ (row_head row.now.op ++ row_names (structs_of m.now) (function_in m.now numbers.now.function) row.now.op (option_map (type_at (trees_of m.now).types) row.now.written) (map (operand_of (trees_of m.now)) row.now.operands) (map (λ b. b.0) row.now.targets))) }
     ensures kept { Keeps out.old.items out.new.items }
 {
     put_head(row.op, out)?;
@@ -347,7 +336,7 @@ fn put_inst(
     requires printing { IsPrinting m.now numbers.now }
     requires ty { ty.0 < length m.now.types }
     requires own { OwnsOperands m.now numbers.now.function inst.now }
-    ensures text { OnOk result (out.new.items ≡ out.old.items ++ instruction_text (function_in m.now numbers.now.function) (type_at (trees_of m.now).types ty) (instruction_of (trees_of m.now) inst.now)) }
+    ensures text { OnOk result (out.new.items ≡ out.old.items ++ instruction_text (structs_of m.now) (function_in m.now numbers.now.function) (type_at (trees_of m.now).types ty) (instruction_of (trees_of m.now) inst.now)) }
     ensures kept { Keeps out.old.items out.new.items }
 {
     match inst {

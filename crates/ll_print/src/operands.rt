@@ -2,7 +2,7 @@
 
 ghost use Rattle.std.specs.Prelude.{◌≡◌, ◌++◌, decimal, OnOk};
 ghost use Rattle.support.specs.Appended.{Keeps};
-ghost use Rattle.llvm_core.specs.Data.{trees_of, operand_of};
+ghost use Rattle.llvm_core.specs.Data.{trees_of, operand_of, structs_of};
 ghost use Rattle.ll_print.specs.Printing.{operand_text, value_text, block_ref};
 ghost use Rattle.ll_print.specs.Numbering.{number_at};
 ghost use Rattle.ll_print.specs.Parts.{function_in, bare_text, named_text, IsOwn, IsOwnBlock, IsPrinting};
@@ -69,7 +69,7 @@ pub fn put_operand(
 ) -> Result<(), AllocError>
     requires printing { IsPrinting m.now numbers.now }
     requires own { IsOwn m.now numbers.now.function value }
-    ensures text { OnOk result (out.new.items ≡ out.old.items ++ operand_text (function_in m.now numbers.now.function) (operand_of (trees_of m.now) value)) }
+    ensures text { OnOk result (out.new.items ≡ out.old.items ++ operand_text (structs_of m.now) (function_in m.now numbers.now.function) (operand_of (trees_of m.now) value)) }
     ensures kept { Keeps out.old.items out.new.items }
 {
     match value {
@@ -91,7 +91,7 @@ pub fn put_value(
 ) -> Result<(), AllocError>
     requires printing { IsPrinting m.now numbers.now }
     requires own { IsOwn m.now numbers.now.function value }
-    ensures text { OnOk result (out.new.items ≡ out.old.items ++ value_text (function_in m.now numbers.now.function) (operand_of (trees_of m.now) value)) }
+    ensures text { OnOk result (out.new.items ≡ out.old.items ++ value_text (structs_of m.now) (function_in m.now numbers.now.function) (operand_of (trees_of m.now) value)) }
     ensures kept { Keeps out.old.items out.new.items }
 {
     put_type(m, m.type_of(value), out)?;

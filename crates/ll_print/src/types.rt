@@ -6,7 +6,7 @@ ghost use Rattle.support.specs.Appended.{Keeps};
 ghost use Rattle.llvm_core.specs.Sound.{IsModule};
 ghost use Rattle.llvm_core.specs.Data.{trees_of, type_at, types_at, StructType};
 ghost use Rattle.ll_literals.specs.Names.{local, printed_name};
-ghost use Rattle.ll_print.specs.Printing.{floating_text, other_text, space_text, vector_open, struct_open, counted_text, fields_text, type_text};
+ghost use Rattle.ll_print.specs.Printing.{floating_text, other_text, space_text, vector_open, struct_open, counted_text, fields_text, type_text, comma_text};
 ghost use Rattle.ll_print.specs.Parts.{gap_text, close_text};
 
 use itoa::Buffer;
@@ -220,6 +220,17 @@ fn put_gap(place: usize, out: &mut Vec<u8>) -> Result<(), AllocError>
         return out.extend_from_slice(b" ");
     }
     out.extend_from_slice(b", ")
+}
+
+/// A comma and a blank before an item of a list, but for the first.
+pub fn put_comma(place: usize, out: &mut Vec<u8>) -> Result<(), AllocError>
+    ensures text { OnOk result (out.new.items ≡ out.old.items ++ comma_text place) }
+    ensures kept { Keeps out.old.items out.new.items }
+{
+    if place > 0 {
+        out.extend_from_slice(b", ")?;
+    }
+    Ok(())
 }
 
 /// So many of a type, between what stands before and behind.

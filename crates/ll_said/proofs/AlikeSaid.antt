@@ -5,6 +5,7 @@ use Rattle.std.specs.Prelude.{decimal}
 use Rattle.std.specs.Option.{option_map_or}
 use Rattle.std.proofs.lemmas.Option.{same_Some}
 use Rattle.support.specs.Interned.{IsDistinctList}
+use Rattle.kinds.specs.Structs.{Struct}
 use Rattle.llvm_core.specs.Data as D
 use Rattle.llvm_core.specs.Data.{TypeTree, Operand, Constant, Parameter, Result, RowData, Instruction, Phi, Applied, Placed, Block, operand_type, param_type, placed_in}
 use Rattle.kinds.specs.Types.{result_of}
@@ -129,94 +130,95 @@ module _ (g h : D.Function) (alike : FunctionsAlike g h) (here : IsDistinctList 
   ref_same : (a b : ℕ) → SameBlock g h a b → block_ref g a ≡ block_ref h b
   ref_same a b pair = ap (λ (n : Text). local_text g n (BlockOf a)) (block_name_same a b pair) ∙ local_same (block_name h b) (BlockOf a) (BlockOf b) (b, refl, pair)
 
-  -- ---- instructions
+  -- ---- instructions, of a module with these structs
 
-  said_same : (o p : Operand) → OperandsAlike g h o p → said_of g o ≡ said_of h p
-  said_same (Constant c) p x = ap (said_of h) (sym x)
-  said_same (Parameter f i) p x =
-      ap (λ (ns : List Text). L.Local (local_text g (slice_index_or ns i []) (ParamAt i))) alike.params
-      ∙ ap L.Local (local_same (slice_index_or h.params i []) (ParamAt i) (ParamAt i) refl) ∙ ap (said_of h) (sym x.1)
-  said_same (Result a) p x =
-      ap (λ (n : Text). L.Local (local_text g n (ResultOf a))) (result_name_same a x.0 x.2)
-      ∙ ap L.Local (local_same (result_name h x.0) (ResultOf a) (ResultOf x.0) (x.0, refl, x.2)) ∙ ap (said_of h) (sym x.1)
+  module _ (structs : List Struct) where
+    said_same : (o p : Operand) → OperandsAlike g h o p → said_of structs g o ≡ said_of structs h p
+    said_same (Constant c) p x = ap (said_of structs h) (sym x)
+    said_same (Parameter f i) p x =
+        ap (λ (ns : List Text). L.Local (local_text g (slice_index_or ns i []) (ParamAt i))) alike.params
+        ∙ ap L.Local (local_same (slice_index_or h.params i []) (ParamAt i) (ParamAt i) refl) ∙ ap (said_of structs h) (sym x.1)
+    said_same (Result a) p x =
+        ap (λ (n : Text). L.Local (local_text g n (ResultOf a))) (result_name_same a x.0 x.2)
+        ∙ ap L.Local (local_same (result_name h x.0) (ResultOf a) (ResultOf x.0) (x.0, refl, x.2)) ∙ ap (said_of structs h) (sym x.1)
 
-  typed_same : (o p : Operand) → OperandsAlike g h o p → typed_of g o ≡ typed_of h p
-  typed_same o p x = let said = said_same o p x in let types = types_alike g h alike here there left right o p x in
-      ap (λ (t : TypeTree). let y : Typed = record { type = t; said = said_of g o } in y) types ∙ ap (λ (s : L.Said). let y : Typed = record { type = operand_type h p; said = s } in y) said
+    typed_same : (o p : Operand) → OperandsAlike g h o p → typed_of structs g o ≡ typed_of structs h p
+    typed_same o p x = let said = said_same o p x in let types = types_alike g h alike here there left right o p x in
+        ap (λ (t : TypeTree). let y : Typed = record { type = t; said = said_of structs g o } in y) types ∙ ap (λ (s : L.Said). let y : Typed = record { type = operand_type h p; said = s } in y) said
 
-  entry_same : (e d : Operand × ℕ) → EntriesAlike g h e d → entry_of g e ≡ entry_of h d
-  entry_same e d x =
-      ap (λ (s : L.Said). let y : L.Incoming = record { said = s; block = block_ref g e.1 } in y) (said_same e.0 d.0 x.0)
-      ∙ ap (λ (t : Text). let y : L.Incoming = record { said = said_of h d.0; block = t } in y) (ref_same e.1 d.1 x.1)
+    entry_same : (e d : Operand × ℕ) → EntriesAlike g h e d → entry_of structs g e ≡ entry_of structs h d
+    entry_same e d x =
+        ap (λ (s : L.Said). let y : L.Incoming = record { said = s; block = block_ref g e.1 } in y) (said_same e.0 d.0 x.0)
+        ∙ ap (λ (t : Text). let y : L.Incoming = record { said = said_of structs h d.0; block = t } in y) (ref_same e.1 d.1 x.1)
 
-  row_same : (r s : RowData) → RowAlike g h r s → row_of g r ≡ row_of h s
-  row_same r s x =
-      let op = x.op in
-      let written = x.written in
-      let operands = map_same (OperandsAlike g h) (typed_of g) (typed_of h) typed_same r.operands s.operands x.operands in
-      let targets = map_same (SameBlock g h) (block_ref g) (block_ref h) ref_same r.targets s.targets x.targets in
-      λ i. record { op = op i; written = written i; operands = operands i; targets = targets i }
+    row_same : (r s : RowData) → RowAlike g h r s → row_of structs g r ≡ row_of structs h s
+    row_same r s x =
+        let op = x.op in
+        let written = x.written in
+        let operands = map_same (OperandsAlike g h) (typed_of structs g) (typed_of structs h) typed_same r.operands s.operands x.operands in
+        let targets = map_same (SameBlock g h) (block_ref g) (block_ref h) ref_same r.targets s.targets x.targets in
+        λ i. record { op = op i; written = written i; operands = operands i; targets = targets i }
 
-  inst_same : (t : TypeTree) (x y : Instruction) → CodeAlike g h x y → inst_of g t x ≡ inst_of h t y
-  inst_same t (Phi es) (Phi ds) c = ap (L.Phi t) (map_same (EntriesAlike g h) (entry_of g) (entry_of h) entry_same es ds c)
-  inst_same t (Applied r) (Applied s) c = ap L.Row (row_same r s c)
-  inst_same t (Phi es) (Applied s) c = elim c [ ]
-  inst_same t (Applied r) (Phi ds) c = elim c [ ]
+    inst_same : (t : TypeTree) (x y : Instruction) → CodeAlike g h x y → inst_of structs g t x ≡ inst_of structs h t y
+    inst_same t (Phi es) (Phi ds) c = ap (L.Phi t) (map_same (EntriesAlike g h) (entry_of structs g) (entry_of structs h) entry_same es ds c)
+    inst_same t (Applied r) (Applied s) c = ap L.Row (row_same r s c)
+    inst_same t (Phi es) (Applied s) c = elim c [ ]
+    inst_same t (Applied r) (Phi ds) c = elim c [ ]
 
-  gives_same : (t : TypeTree) (p q : Placed) → PlacedAlike g h p q → gives_of g t p ≡ gives_of h t q
-  gives_same t p q pair = by (is_void t)
-    where
-      some : Some (local_text g p.name (ResultOf p.number)) ≡ Some (local_text h q.name (ResultOf q.number))
-      some = ap (λ (n : Text). Some n) (local_same p.name (ResultOf p.number) (ResultOf q.number) (q.number, refl, pair.number) ∙ ap (λ (n : Text). local_text h n (ResultOf q.number)) pair.name)
+    gives_same : (t : TypeTree) (p q : Placed) → PlacedAlike g h p q → gives_of g t p ≡ gives_of h t q
+    gives_same t p q pair = by (is_void t)
+      where
+        some : Some (local_text g p.name (ResultOf p.number)) ≡ Some (local_text h q.name (ResultOf q.number))
+        some = ap (λ (n : Text). Some n) (local_same p.name (ResultOf p.number) (ResultOf q.number) (q.number, refl, pair.number) ∙ ap (λ (n : Text). local_text h n (ResultOf q.number)) pair.name)
 
-      by : (v : Bool) → (if v then None else Some (local_text g p.name (ResultOf p.number))) ≡ (if v then None else Some (local_text h q.name (ResultOf q.number)))
-      by true = refl
-      by false = some
+        by : (v : Bool) → (if v then None else Some (local_text g p.name (ResultOf p.number))) ≡ (if v then None else Some (local_text h q.name (ResultOf q.number)))
+        by true = refl
+        by false = some
 
-  line_same : (p q : Placed) → PlacedAlike g h p q → line_of g p ≡ line_of h q
-  line_same p q pair =
-      let gives : gives_of g p.type p ≡ gives_of h q.type q = gives_same p.type p q pair ∙ ap (λ (t : TypeTree). gives_of h t q) pair.type in
-      let inst : inst_of g p.type p.instruction ≡ inst_of h q.type q.instruction = inst_same p.type p.instruction q.instruction pair.code ∙ ap (λ (t : TypeTree). inst_of h t q.instruction) pair.type in
-      λ i. record { result = gives i; inst = inst i }
+    line_same : (p q : Placed) → PlacedAlike g h p q → line_of structs g p ≡ line_of structs h q
+    line_same p q pair =
+        let gives : gives_of g p.type p ≡ gives_of h q.type q = gives_same p.type p q pair ∙ ap (λ (t : TypeTree). gives_of h t q) pair.type in
+        let inst : inst_of structs g p.type p.instruction ≡ inst_of structs h q.type q.instruction = inst_same p.type p.instruction q.instruction pair.code ∙ ap (λ (t : TypeTree). inst_of structs h t q.instruction) pair.type in
+        λ i. record { result = gives i; inst = inst i }
 
-  -- ---- blocks and functions
+    -- ---- blocks and functions
 
-  lines_same : (c d : Block) → BlocksAlike g h c d → lines_of g c ≡ lines_of h d
-  lines_same c d pair = map_same (PlacedAlike g h) (λ (p : Placed). L.Does (line_of g p)) (λ (p : Placed). L.Does (line_of h p)) (λ p q x. ap L.Does (line_same p q x)) c.instructions d.instructions pair.instructions
+    lines_same : (c d : Block) → BlocksAlike g h c d → lines_of structs g c ≡ lines_of structs h d
+    lines_same c d pair = map_same (PlacedAlike g h) (λ (p : Placed). L.Does (line_of structs g p)) (λ (p : Placed). L.Does (line_of structs h p)) (λ p q x. ap L.Does (line_same p q x)) c.instructions d.instructions pair.instructions
 
-  label_same : (c d : Block) → BlocksAlike g h c d → label_of g c ≡ label_of h d
-  label_same c d pair = ap (λ (t : Text). label (drop 1 t)) (ref_same c.number d.number pair.number)
+    label_same : (c d : Block) → BlocksAlike g h c d → label_of g c ≡ label_of h d
+    label_same c d pair = ap (λ (t : Text). label (drop 1 t)) (ref_same c.number d.number pair.number)
 
-  block_same : (c d : Block) → BlocksAlike g h c d → block_parts g c ≡ block_parts h d
-  block_same c d pair = let head = label_same c d pair in let lines = lines_same c d pair in λ i. L.Label (head i) ∷ lines i
+    block_same : (c d : Block) → BlocksAlike g h c d → block_parts structs g c ≡ block_parts structs h d
+    block_same c d pair = let head = label_same c d pair in let lines = lines_same c d pair in λ i. L.Label (head i) ∷ lines i
 
-  entry_label_same : (n : Text) (c d : Block) → BlocksAlike g h c d → entry_label g c n ≡ entry_label h d n
-  entry_label_same [] c d pair = refl
-  entry_label_same (b ∷ bs) c d pair = ap (λ (t : Text). L.Label t ∷ []) (label_same c d pair)
+    entry_label_same : (n : Text) (c d : Block) → BlocksAlike g h c d → entry_label g c n ≡ entry_label h d n
+    entry_label_same [] c d pair = refl
+    entry_label_same (b ∷ bs) c d pair = ap (λ (t : Text). L.Label t ∷ []) (label_same c d pair)
 
-  parts_same : (cs ds : List Block) → AllZip (BlocksAlike g h) cs ds → parts_of g cs ≡ parts_of h ds
-  parts_same [] [] pairs = refl
-  parts_same [] (d ∷ ds) pairs = elim pairs [ ]
-  parts_same (c ∷ cs) [] pairs = elim pairs [ ]
-  parts_same (c ∷ cs) (d ∷ ds) pairs =
-      let head : entry_label g c c.name ≡ entry_label h d d.name = entry_label_same c.name c d pairs.0 ∙ ap (entry_label h d) pairs.0.name in
-      let lines = lines_same c d pairs.0 in
-      let more = flat_same (BlocksAlike g h) (block_parts g) (block_parts h) block_same cs ds pairs.1 in
-      λ i. head i ++ (lines i ++ more i)
+    parts_same : (cs ds : List Block) → AllZip (BlocksAlike g h) cs ds → parts_of structs g cs ≡ parts_of structs h ds
+    parts_same [] [] pairs = refl
+    parts_same [] (d ∷ ds) pairs = elim pairs [ ]
+    parts_same (c ∷ cs) [] pairs = elim pairs [ ]
+    parts_same (c ∷ cs) (d ∷ ds) pairs =
+        let head : entry_label g c c.name ≡ entry_label h d d.name = entry_label_same c.name c d pairs.0 ∙ ap (entry_label h d) pairs.0.name in
+        let lines = lines_same c d pairs.0 in
+        let more = flat_same (BlocksAlike g h) (block_parts structs g) (block_parts structs h) block_same cs ds pairs.1 in
+        λ i. head i ++ (lines i ++ more i)
 
-  params_same : (i : ℕ) (ns : List Text) → params_of g i ns ≡ params_of h i ns
-  params_same i [] = refl
-  params_same i (n ∷ ns) =
-      let type : param_type g.type i ≡ param_type h.type i = ap (λ (t : TypeTree). param_type t i) alike.type in
-      let name = local_same n (ParamAt i) (ParamAt i) refl in
-      let more = params_same (suc i) ns in
-      λ j. (record { type = type j; name = Some (name j) }) ∷ more j
+    params_same : (i : ℕ) (ns : List Text) → params_of g i ns ≡ params_of h i ns
+    params_same i [] = refl
+    params_same i (n ∷ ns) =
+        let type : param_type g.type i ≡ param_type h.type i = ap (λ (t : TypeTree). param_type t i) alike.type in
+        let name = local_same n (ParamAt i) (ParamAt i) refl in
+        let more = params_same (suc i) ns in
+        λ j. (record { type = type j; name = Some (name j) }) ∷ more j
 
-  -- what the texts say
-  pub function_same : function_of g ≡ function_of h
-  function_same =
-      let result : result_of g.type ≡ result_of h.type = ap result_of alike.type in
-      let name : global (printed_name g.name) ≡ global (printed_name h.name) = ap (λ (n : Text). global (printed_name n)) alike.name in
-      let params : params_of g 0 g.params ≡ params_of h 0 h.params = params_same 0 g.params ∙ ap (params_of h 0) alike.params in
-      let body = parts_same g.blocks h.blocks alike.blocks in
-      λ i. record { result = result i; name = name i; params = params i; body = body i }
+    -- what the texts say
+    pub function_same : function_of structs g ≡ function_of structs h
+    function_same =
+        let result : result_of g.type ≡ result_of h.type = ap result_of alike.type in
+        let name : global (printed_name g.name) ≡ global (printed_name h.name) = ap (λ (n : Text). global (printed_name n)) alike.name in
+        let params : params_of g 0 g.params ≡ params_of h 0 h.params = params_same 0 g.params ∙ ap (params_of h 0) alike.params in
+        let body = parts_same g.blocks h.blocks alike.blocks in
+        λ i. record { result = result i; name = name i; params = params i; body = body i }

@@ -1,9 +1,11 @@
--- The constants that instructions use are the same under other numbers.
-use Rattle.std.proofs.Common.{◌≡◌, ℕ, suc, ◌+◌, List, [], ◌∷◌, ◌++◌, length, map, refl, ap, sym, ◌∙◌}
+-- The constants that instructions use are the same under other numbers, and so they are made as they were.
+use Rattle.std.proofs.Common.{◌≡◌, ℕ, suc, ◌+◌, List, [], ◌∷◌, ◌++◌, length, map, All, refl, ap, sym, ◌∙◌, subst}
 use Rattle.std.specs.List.{flat_map}
 use Rattle.std.proofs.lemmas.List.Concat.{flat_map-append}
+use Rattle.std.proofs.lemmas.List.Elements.{All-map, All-weaker}
+use Rattle.kinds.specs.Structs.{Struct}
 use Rattle.llvm_core.specs.Data.{TypeTree, Operand, Constant, Parameter, Result, Instruction, Phi, Applied, Placed, Function, placed_in}
-use Rattle.llvm_core.specs.Form.{operands_of, constant_type, constant_types}
+use Rattle.llvm_core.specs.Form.{operands_of, constant_type, constant_types, IsMadeOperand, HasMadeOperands}
 use Rattle.ll_said.specs.Numbered.{Numbers, operand_to, entry_to, instruction_to, placed_to, function_to, numbers_from, functions_from}
 use Rattle.ll_said.proofs.RenumberLaws.{placed_mapped}
 
@@ -40,3 +42,34 @@ twins_constants f b n (x ∷ xs) =
     ∙ ap (λ (ts : List TypeTree). ts ++ flat_map constant_types rest) first
     ∙ ap (λ (ts : List TypeTree). flat_map constant_types (placed_in x) ++ ts) (twins_constants (suc f) (b + length x.blocks) (n + length (placed_in x)) xs)
     ∙ sym (flat_map-append constant_types (placed_in x) (flat_map placed_in xs))
+
+-- ---- of which elements they are made
+
+-- what each item keeps under a change
+all_mapped : {X : Type 0} (P : X → Type 0) (f : X → X) → ((x : X) → P x → P (f x)) → (xs : List X) → All P xs → All P (map f xs)
+all_mapped P f keeps xs h = All-map P f xs (All-weaker P (λ x. P (f x)) keeps xs h)
+
+module _ (structs : List Struct) (to : Numbers) where
+  operand_made : (o : Operand) → IsMadeOperand structs o → IsMadeOperand structs (operand_to to o)
+  operand_made (Constant c) h = h
+  operand_made (Parameter g i) h = tt
+  operand_made (Result n) h = tt
+
+  operands_made : (os : List Operand) → All (IsMadeOperand structs) os → All (IsMadeOperand structs) (map (operand_to to) os)
+  operands_made os h = all_mapped (IsMadeOperand structs) (operand_to to) operand_made os h
+
+  entries_made : (es : List (Operand × ℕ)) → All (IsMadeOperand structs) (operands_of (Phi es)) → All (IsMadeOperand structs) (operands_of (Phi (map (entry_to to) es)))
+  entries_made es h = subst (All (IsMadeOperand structs)) (sym (entry_operands es)) (operands_made (operands_of (Phi es)) h)
+    where
+      entry_operands : (es : List (Operand × ℕ)) → operands_of (Phi (map (entry_to to) es)) ≡ map (operand_to to) (operands_of (Phi es))
+      entry_operands [] = refl
+      entry_operands (e ∷ es) = ap (λ (os : List Operand). operand_to to e.0 ∷ os) (entry_operands es)
+
+  instruction_made : (x : Instruction) → All (IsMadeOperand structs) (operands_of x) → All (IsMadeOperand structs) (operands_of (instruction_to to x))
+  instruction_made (Phi es) h = entries_made es h
+  instruction_made (Applied r) h = operands_made r.operands h
+
+  pub twin_made : (x : Function) → HasMadeOperands structs x → HasMadeOperands structs (function_to to x)
+  twin_made x h =
+      let Made : Placed → Type 0 = λ p. All (IsMadeOperand structs) (operands_of p.instruction) in
+      subst (All Made) (sym (placed_mapped to x.blocks)) (all_mapped Made (placed_to to) (λ p g. instruction_made p.instruction g) (placed_in x) h)

@@ -7,6 +7,7 @@ use Rattle.std.proofs.lemmas.List.Elements.{All-from_recursion}
 use Rattle.std.proofs.lemmas.Option.{same_Some, cond_some, option_and_then_some}
 use Rattle.kinds.specs.Types.{TypeTree, VoidType}
 use Rattle.kinds.specs.Held.{is_void}
+use Rattle.kinds.specs.Structs.{Struct}
 use Rattle.llvm_core.specs.Data.{Result, Parameter, Placed, Block, Function, ModuleData}
 use Rattle.llvm_core.specs.Form.{IsForm, HasDistinctNames}
 use Rattle.ll_literals.specs.Text.{Text}
@@ -133,25 +134,25 @@ abbrev of_lines : List Placed → List Unnamed
 of_lines ps = flat_map (λ (p : Placed). unnamed_result p.type p) ps
 
 -- u is the scope of the whole function
-lines_rise : (s t u : Scope) (n : ℕ) (ls : List Line) (ps : List Placed) → lines_scope s n ls ≡ Some t → all_from (placed u) n ls ≡ Some ps → Rises (of_lines ps) s t
-lines_rise s t u n [] ps e g = subst (λ (qs : List Placed). Rises (of_lines qs) s t) (same_Some [] ps g) (subst (Rises [] s) (same_Some s t e) (still s))
-lines_rise s t u n (l ∷ ls) ps e g =
+lines_rise : (structs : List Struct) (s t u : Scope) (n : ℕ) (ls : List Line) (ps : List Placed) → lines_scope s n ls ≡ Some t → all_from (placed structs u) n ls ≡ Some ps → Rises (of_lines ps) s t
+lines_rise structs s t u n [] ps e g = subst (λ (qs : List Placed). Rises (of_lines qs) s t) (same_Some [] ps g) (subst (Rises [] s) (same_Some s t e) (still s))
+lines_rise structs s t u n (l ∷ ls) ps e g =
     let step = bind_some (result_scope s n (result_type l.inst) l.result) (λ (v : Scope). lines_scope v (suc n) ls) t e in
-    let parts = first_line u n l ls ps g in
+    let parts = first_line structs u n l ls ps g in
     let p = parts.first in
-    let one = result_rises s step.0 n l p (of_line u n l p parts.is_first) step.1 in
-    let more = lines_rise step.0 t u (suc n) ls parts.others step.2 parts.are_others in
+    let one = result_rises s step.0 n l p (of_line structs u n l p parts.is_first) step.1 in
+    let more = lines_rise structs step.0 t u (suc n) ls parts.others step.2 parts.are_others in
     subst (λ (qs : List Placed). Rises (of_lines qs) s t) parts.whole (joined (unnamed_result p.type p) (of_lines parts.others) s step.0 t one more)
 
-blocks_rise : (s t u : Scope) (b n : ℕ) (xs : List SaidBlock) (cs : List Block) → blocks_scope s b n xs ≡ Some t → blocks_data u b n xs ≡ Some cs → Rises (flat_map unnamed_block cs) s t
-blocks_rise s t u b n [] cs e g = subst (λ (ds : List Block). Rises (flat_map unnamed_block ds) s t) (same_Some [] cs g) (subst (Rises [] s) (same_Some s t e) (still s))
-blocks_rise s t u b n (x ∷ xs) cs e g =
+blocks_rise : (structs : List Struct) (s t u : Scope) (b n : ℕ) (xs : List SaidBlock) (cs : List Block) → blocks_scope s b n xs ≡ Some t → blocks_data structs u b n xs ≡ Some cs → Rises (flat_map unnamed_block cs) s t
+blocks_rise structs s t u b n [] cs e g = subst (λ (ds : List Block). Rises (flat_map unnamed_block ds) s t) (same_Some [] cs g) (subst (Rises [] s) (same_Some s t e) (still s))
+blocks_rise structs s t u b n (x ∷ xs) cs e g =
     let first = bind_some (define_written s (BlockLocal b) label_key x.label) _ t e in
     let second = bind_some (lines_scope first.0 n x.lines) _ t first.2 in
-    let parts = first_block u b n x xs cs g in
+    let parts = first_block structs u b n x xs cs g in
     let name = written_rises s (BlockLocal b) label_key label_proper x.label first.0 (BlockOf b) first.1 in
-    let lines = lines_rise first.0 second.0 u n x.lines parts.instructions second.1 parts.are_instructions in
-    let more = blocks_rise second.0 t u (suc b) (n + length x.lines) xs parts.others second.2 parts.are_others in
+    let lines = lines_rise structs first.0 second.0 u n x.lines parts.instructions second.1 parts.are_instructions in
+    let more = blocks_rise structs second.0 t u (suc b) (n + length x.lines) xs parts.others second.2 parts.are_others in
     let block = if_unnamed (written_name label_key x.label) (BlockOf b) in
     let results = of_lines parts.instructions in
     let here = joined block results s first.0 second.0 name lines in
@@ -167,25 +168,25 @@ params_rise s t f i (p ∷ ps) e =
 
 -- ---- functions
 
-function_few : (f b n : ℕ) (x : L.Function) (d : Function) → IsOfFunction f b n x d → HasFewUnnamed d
-function_few f b n x d parts =
+function_few : (structs : List Struct) (f b n : ℕ) (x : L.Function) (d : Function) → IsOfFunction structs f b n x d → HasFewUnnamed d
+function_few structs f b n x d parts =
     let params = params_rise empty_scope parts.before f 0 x.params parts.params_are in
     let of_params = subst (λ (ns : List Text). Rises (unnamed_params 0 ns) empty_scope parts.before) parts.params params in
-    let of_blocks = blocks_rise parts.before parts.scope parts.scope b n parts.said d.blocks parts.defined parts.blocks_are in
+    let of_blocks = blocks_rise structs parts.before parts.scope parts.scope b n parts.said d.blocks parts.defined parts.blocks_are in
     let all = joined (unnamed_params 0 d.params) (flat_map unnamed_block d.blocks) empty_scope parts.before parts.scope of_params of_blocks in
     let next = all.next in
     let limit = all.limit (omega arith) in
     omega (arith, next, limit)
 
-functions_few : (f b n : ℕ) (xs : List L.Function) (ds : List Function) → functions_data f b n xs ≡ Some ds → AllByRecursion HasFewUnnamed ds
-functions_few f b n [] ds e = subst (AllByRecursion HasFewUnnamed) (same_Some [] ds e) tt
-functions_few f b n (x ∷ xs) ds e =
-    let d = bind_some (function_data f b n x) _ ds e in
-    let more = bind_some (functions_data (suc f) (b + length d.0.blocks) (n + count_insts d.0.blocks) xs) _ ds d.2 in
-    subst (AllByRecursion HasFewUnnamed) (same_Some _ ds more.2) (function_few f b n x d.0 (of_function f b n x d.0 d.1), functions_few (suc f) (b + length d.0.blocks) (n + count_insts d.0.blocks) xs more.0 more.1)
+functions_few : (structs : List Struct) (f b n : ℕ) (xs : List L.Function) (ds : List Function) → functions_data structs f b n xs ≡ Some ds → AllByRecursion HasFewUnnamed ds
+functions_few structs f b n [] ds e = subst (AllByRecursion HasFewUnnamed) (same_Some [] ds e) tt
+functions_few structs f b n (x ∷ xs) ds e =
+    let d = bind_some (function_data structs f b n x) _ ds e in
+    let more = bind_some (functions_data structs (suc f) (b + length d.0.blocks) (n + count_insts d.0.blocks) xs) _ ds d.2 in
+    subst (AllByRecursion HasFewUnnamed) (same_Some _ ds more.2) (function_few structs f b n x d.0 (of_function structs f b n x d.0 d.1), functions_few structs (suc f) (b + length d.0.blocks) (n + count_insts d.0.blocks) xs more.0 more.1)
 
 pub few_unnamed : (m : File) (d : ModuleData) → file_data m ≡ Some d → All HasFewUnnamed d.functions
-few_unnamed m d e = All-from_recursion HasFewUnnamed d.functions (of_file (AllByRecursion HasFewUnnamed) (functions_few 0 0 0) m d e)
+few_unnamed m d e = All-from_recursion HasFewUnnamed d.functions (of_file (AllByRecursion HasFewUnnamed) (λ structs. functions_few structs 0 0 0) m d e)
 
 -- so that a text says whole what lines mean, where it is of the form and names are distinct
 pub meant_sayable : (m : File) (d : ModuleData) → file_data m ≡ Some d → IsForm d → HasDistinctNames d → IsSayableModule d

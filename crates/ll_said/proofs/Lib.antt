@@ -6,6 +6,7 @@ pub mod AlikeSaid
 pub mod AllLaws
 pub mod ApartLaws
 pub mod BodyLaws
+pub mod ConstMeaning
 pub mod ConstantLaws
 pub mod CountingLaws
 pub mod CutLaws

@@ -4,6 +4,7 @@ use Rattle.std.specs.Option.{option_map_or}
 use Rattle.std.specs.Str.{is_utf8}
 use Rattle.std.proofs.lemmas.Option.{same_Some, cond_some, option_and_then_some}
 use Rattle.std.proofs.lemmas.Str.{is_utf8-from_IsUtf8, IsUtf8-nil}
+use Rattle.kinds.specs.Structs.{Struct}
 use Rattle.llvm_core.specs.Data.{TypeTree, VoidType, Placed, Block, Function, ModuleData}
 use Rattle.ll_literals.specs.Text.{Text}
 use Rattle.ll_literals.specs.Escapes.{unescaped}
@@ -30,83 +31,83 @@ pub record IsOfLine (n : ℕ) (l : Line) (p : Placed) : Type 0 where
   pub name : p.name ≡ written_name local_key l.result
   pub type : p.type ≡ option_map_or (λ (τ : TypeTree). τ) (result_type l.inst) VoidType
 
-pub of_line : (s : Scope) (n : ℕ) (l : Line) (p : Placed) → placed s n l ≡ Some p → IsOfLine n l p
-of_line s n l p e =
-    let i = bind_some (instruction s l.inst) _ p e in
+pub of_line : (structs : List Struct) (s : Scope) (n : ℕ) (l : Line) (p : Placed) → placed structs s n l ≡ Some p → IsOfLine n l p
+of_line structs s n l p e =
+    let i = bind_some (instruction structs s l.inst) _ p e in
     let same = same_Some _ p i.2 in
     record { number = sym (ap (λ (q : Placed). q.number) same); name = sym (ap (λ (q : Placed). q.name) same); type = sym (ap (λ (q : Placed). q.type) same) }
 
 -- the instructions of lines, the first and the others
-pub record FirstLine (s : Scope) (n : ℕ) (l : Line) (ls : List Line) (ps : List Placed) : Type 0 where
+pub record FirstLine (structs : List Struct) (s : Scope) (n : ℕ) (l : Line) (ls : List Line) (ps : List Placed) : Type 0 where
   pub first : Placed
   pub others : List Placed
-  pub is_first : placed s n l ≡ Some first
-  pub are_others : all_from (placed s) (suc n) ls ≡ Some others
+  pub is_first : placed structs s n l ≡ Some first
+  pub are_others : all_from (placed structs s) (suc n) ls ≡ Some others
   pub whole : first ∷ others ≡ ps
 
-pub first_line : (s : Scope) (n : ℕ) (l : Line) (ls : List Line) (ps : List Placed) → all_from (placed s) n (l ∷ ls) ≡ Some ps → FirstLine s n l ls ps
-first_line s n l ls ps e =
-    let p = bind_some (placed s n l) (λ (p : Placed). all_from (placed s) (suc n) ls >>= λ (qs : List Placed). Some (p ∷ qs)) ps e in
-    let qs = bind_some (all_from (placed s) (suc n) ls) (λ (qs : List Placed). Some (p.0 ∷ qs)) ps p.2 in
+pub first_line : (structs : List Struct) (s : Scope) (n : ℕ) (l : Line) (ls : List Line) (ps : List Placed) → all_from (placed structs s) n (l ∷ ls) ≡ Some ps → FirstLine structs s n l ls ps
+first_line structs s n l ls ps e =
+    let p = bind_some (placed structs s n l) (λ (p : Placed). all_from (placed structs s) (suc n) ls >>= λ (qs : List Placed). Some (p ∷ qs)) ps e in
+    let qs = bind_some (all_from (placed structs s) (suc n) ls) (λ (qs : List Placed). Some (p.0 ∷ qs)) ps p.2 in
     record { first = p.0; others = qs.0; is_first = p.1; are_others = qs.1; whole = same_Some (p.0 ∷ qs.0) ps qs.2 }
 
-pub lines_many : (s : Scope) (n : ℕ) (ls : List Line) (ps : List Placed) → all_from (placed s) n ls ≡ Some ps → length ps ≡ length ls
-lines_many s n [] ps e = ap (λ (qs : List Placed). length qs) (sym (same_Some [] ps e))
-lines_many s n (l ∷ ls) ps e =
-    let parts = first_line s n l ls ps e in
-    ap (λ (qs : List Placed). length qs) (sym parts.whole) ∙ ap suc (lines_many s (suc n) ls parts.others parts.are_others)
+pub lines_many : (structs : List Struct) (s : Scope) (n : ℕ) (ls : List Line) (ps : List Placed) → all_from (placed structs s) n ls ≡ Some ps → length ps ≡ length ls
+lines_many structs s n [] ps e = ap (λ (qs : List Placed). length qs) (sym (same_Some [] ps e))
+lines_many structs s n (l ∷ ls) ps e =
+    let parts = first_line structs s n l ls ps e in
+    ap (λ (qs : List Placed). length qs) (sym parts.whole) ∙ ap suc (lines_many structs s (suc n) ls parts.others parts.are_others)
 
-lines_counted : (s : Scope) (n : ℕ) (ls : List Line) (ps : List Placed) → all_from (placed s) n ls ≡ Some ps → IsCounted placed_number n ps
-lines_counted s n [] ps e = subst (IsCounted placed_number n) (same_Some [] ps e) tt
-lines_counted s n (l ∷ ls) ps e =
-    let parts = first_line s n l ls ps e in
-    subst (IsCounted placed_number n) parts.whole ((of_line s n l parts.first parts.is_first).number, lines_counted s (suc n) ls parts.others parts.are_others)
+lines_counted : (structs : List Struct) (s : Scope) (n : ℕ) (ls : List Line) (ps : List Placed) → all_from (placed structs s) n ls ≡ Some ps → IsCounted placed_number n ps
+lines_counted structs s n [] ps e = subst (IsCounted placed_number n) (same_Some [] ps e) tt
+lines_counted structs s n (l ∷ ls) ps e =
+    let parts = first_line structs s n l ls ps e in
+    subst (IsCounted placed_number n) parts.whole ((of_line structs s n l parts.first parts.is_first).number, lines_counted structs s (suc n) ls parts.others parts.are_others)
 
 -- ---- blocks
 
 -- the blocks of what is said, the first and the others
-pub record FirstBlock (s : Scope) (b n : ℕ) (x : SaidBlock) (xs : List SaidBlock) (cs : List Block) : Type 0 where
+pub record FirstBlock (structs : List Struct) (s : Scope) (b n : ℕ) (x : SaidBlock) (xs : List SaidBlock) (cs : List Block) : Type 0 where
   pub instructions : List Placed
   pub others : List Block
-  pub are_instructions : all_from (placed s) n x.lines ≡ Some instructions
-  pub are_others : blocks_data s (suc b) (n + length x.lines) xs ≡ Some others
+  pub are_instructions : all_from (placed structs s) n x.lines ≡ Some instructions
+  pub are_others : blocks_data structs s (suc b) (n + length x.lines) xs ≡ Some others
   pub whole : record { number = b; name = written_name label_key x.label; instructions = instructions } ∷ others ≡ cs
 
-pub first_block : (s : Scope) (b n : ℕ) (x : SaidBlock) (xs : List SaidBlock) (cs : List Block) → blocks_data s b n (x ∷ xs) ≡ Some cs → FirstBlock s b n x xs cs
-first_block s b n x xs cs e =
-    let is = bind_some (all_from (placed s) n x.lines) _ cs e in
-    let bs = bind_some (blocks_data s (suc b) (n + length x.lines) xs) _ cs is.2 in
+pub first_block : (structs : List Struct) (s : Scope) (b n : ℕ) (x : SaidBlock) (xs : List SaidBlock) (cs : List Block) → blocks_data structs s b n (x ∷ xs) ≡ Some cs → FirstBlock structs s b n x xs cs
+first_block structs s b n x xs cs e =
+    let is = bind_some (all_from (placed structs s) n x.lines) _ cs e in
+    let bs = bind_some (blocks_data structs s (suc b) (n + length x.lines) xs) _ cs is.2 in
     record { instructions = is.0; others = bs.0; are_instructions = is.1; are_others = bs.1; whole = same_Some _ cs bs.2 }
 
-blocks_counted : (s : Scope) (b n : ℕ) (xs : List SaidBlock) (cs : List Block) → blocks_data s b n xs ≡ Some cs → AreCountedBlocks b n cs
-blocks_counted s b n [] cs e = subst (AreCountedBlocks b n) (same_Some [] cs e) tt
-blocks_counted s b n (x ∷ xs) cs e =
-    let parts = first_block s b n x xs cs e in
-    let many = lines_many s n x.lines parts.instructions parts.are_instructions in
-    let later = blocks_counted s (suc b) (n + length x.lines) xs parts.others parts.are_others in
+blocks_counted : (structs : List Struct) (s : Scope) (b n : ℕ) (xs : List SaidBlock) (cs : List Block) → blocks_data structs s b n xs ≡ Some cs → AreCountedBlocks b n cs
+blocks_counted structs s b n [] cs e = subst (AreCountedBlocks b n) (same_Some [] cs e) tt
+blocks_counted structs s b n (x ∷ xs) cs e =
+    let parts = first_block structs s b n x xs cs e in
+    let many = lines_many structs s n x.lines parts.instructions parts.are_instructions in
+    let later = blocks_counted structs s (suc b) (n + length x.lines) xs parts.others parts.are_others in
     let behind = subst (λ (k : ℕ). AreCountedBlocks (suc b) (n + k) parts.others) (sym many) later in
-    subst (AreCountedBlocks b n) parts.whole (refl, lines_counted s n x.lines parts.instructions parts.are_instructions, behind)
+    subst (AreCountedBlocks b n) parts.whole (refl, lines_counted structs s n x.lines parts.instructions parts.are_instructions, behind)
 
 -- ---- functions
 
 -- what a function says, by its parts
-pub record IsOfFunction (f b n : ℕ) (x : L.Function) (d : Function) : Type 0 where
+pub record IsOfFunction (structs : List Struct) (f b n : ℕ) (x : L.Function) (d : Function) : Type 0 where
   pub said : List SaidBlock
   pub before : Scope
   pub scope : Scope
   pub params_are : params_scope empty_scope f 0 x.params ≡ Some before
   pub defined : blocks_scope before b n said ≡ Some scope
-  pub blocks_are : blocks_data scope b n said ≡ Some d.blocks
+  pub blocks_are : blocks_data structs scope b n said ≡ Some d.blocks
   pub number : d.number ≡ f
   pub params : map (λ (p : Param). written_name local_key p.name) x.params ≡ d.params
 
-pub of_function : (f b n : ℕ) (x : L.Function) (d : Function) → function_data f b n x ≡ Some d → IsOfFunction f b n x d
-of_function f b n x d e =
+pub of_function : (structs : List Struct) (f b n : ℕ) (x : L.Function) (d : Function) → function_data structs f b n x ≡ Some d → IsOfFunction structs f b n x d
+of_function structs f b n x d e =
     let name = bind_some (symbol_name x.name) _ d e in
     let said = bind_some (blocks_of x.body) _ d name.2 in
     let s = bind_some (params_scope empty_scope f 0 x.params) _ d said.2 in
     let t = bind_some (blocks_scope s.0 b n said.0) _ d s.2 in
-    let blocks = bind_some (blocks_data t.0 b n said.0) _ d t.2 in
+    let blocks = bind_some (blocks_data structs t.0 b n said.0) _ d t.2 in
     let same = same_Some (made f x name.0 blocks.0) d blocks.2 in
     record {
       said = said.0;
@@ -119,26 +120,26 @@ of_function f b n x d e =
       params = ap (λ (y : Function). y.params) same;
     }
 
-functions_counted : (f b n : ℕ) (xs : List L.Function) (ds : List Function) → functions_data f b n xs ≡ Some ds → AreCounted f b n ds
-functions_counted f b n [] ds e = subst (AreCounted f b n) (same_Some [] ds e) tt
-functions_counted f b n (x ∷ xs) ds e =
-    let d = bind_some (function_data f b n x) _ ds e in
-    let more = bind_some (functions_data (suc f) (b + length d.0.blocks) (n + count_insts d.0.blocks) xs) _ ds d.2 in
-    let parts = of_function f b n x d.0 d.1 in
-    let blocks = blocks_counted parts.scope b n parts.said d.0.blocks parts.blocks_are in
-    subst (AreCounted f b n) (same_Some _ ds more.2) (parts.number, blocks, functions_counted (suc f) (b + length d.0.blocks) (n + count_insts d.0.blocks) xs more.0 more.1)
+functions_counted : (structs : List Struct) (f b n : ℕ) (xs : List L.Function) (ds : List Function) → functions_data structs f b n xs ≡ Some ds → AreCounted f b n ds
+functions_counted structs f b n [] ds e = subst (AreCounted f b n) (same_Some [] ds e) tt
+functions_counted structs f b n (x ∷ xs) ds e =
+    let d = bind_some (function_data structs f b n x) _ ds e in
+    let more = bind_some (functions_data structs (suc f) (b + length d.0.blocks) (n + count_insts d.0.blocks) xs) _ ds d.2 in
+    let parts = of_function structs f b n x d.0 d.1 in
+    let blocks = blocks_counted structs parts.scope b n parts.said d.0.blocks parts.blocks_are in
+    subst (AreCounted f b n) (same_Some _ ds more.2) (parts.number, blocks, functions_counted structs (suc f) (b + length d.0.blocks) (n + count_insts d.0.blocks) xs more.0 more.1)
 
 -- what holds of the functions that lines mean holds of those of a file
-pub of_file : (P : List Function → Type 0) → ((xs : List L.Function) (ds : List Function) → functions_data 0 0 0 xs ≡ Some ds → P ds) → (m : File) (d : ModuleData) → file_data m ≡ Some d → P d.functions
+pub of_file : (P : List Function → Type 0) → ((structs : List Struct) (xs : List L.Function) (ds : List Function) → functions_data structs 0 0 0 xs ≡ Some ds → P ds) → (m : File) (d : ModuleData) → file_data m ≡ Some d → P d.functions
 of_file P step m d e =
     let name = bind_some (source_name m.source) _ d e in
     let ss = bind_some (all_of struct_data m.structs) _ d name.2 in
-    let fs = bind_some (functions_data 0 0 0 m.functions) _ d ss.2 in
-    subst (λ (x : ModuleData). P x.functions) (same_Some _ d fs.2) (step m.functions fs.0 fs.1)
+    let fs = bind_some (functions_data ss.0 0 0 0 m.functions) _ d ss.2 in
+    subst (λ (x : ModuleData). P x.functions) (same_Some _ d fs.2) (step ss.0 m.functions fs.0 fs.1)
 
 pub numbers_count : (m : File) (d : ModuleData) → file_data m ≡ Some d → IsNumbered d
 numbers_count m d e =
-    let through = counted_through 0 0 0 d.functions (of_file (AreCounted 0 0 0) (functions_counted 0 0 0) m d e) in
+    let through = counted_through 0 0 0 d.functions (of_file (AreCounted 0 0 0) (λ structs. functions_counted structs 0 0 0) m d e) in
     record { functions = uncounted _ 0 _ through.functions; blocks = uncounted _ 0 _ through.blocks; instructions = uncounted _ 0 _ through.instructions }
 
 -- ---- the name of the module
@@ -157,5 +158,5 @@ pub utf8_name : (m : File) (d : ModuleData) → file_data m ≡ Some d → is_ut
 utf8_name m d e =
     let name = bind_some (source_name m.source) _ d e in
     let ss = bind_some (all_of struct_data m.structs) _ d name.2 in
-    let fs = bind_some (functions_data 0 0 0 m.functions) _ d ss.2 in
+    let fs = bind_some (functions_data ss.0 0 0 0 m.functions) _ d ss.2 in
     subst (λ (x : ModuleData). is_utf8 x.name ≡ true) (same_Some _ d fs.2) (source_utf8 m.source name.0 name.1)

@@ -8,7 +8,7 @@ use Rattle.support.specs.Interned.{IsDistinctList}
 use Rattle.support.proofs.ListLaws.{distinct_rest}
 use Rattle.kinds.specs.Structs.{IsNested}
 use Rattle.llvm_core.specs.Data.{TypeTree, NamedType, Placed, Block, Function, Struct, ModuleData, placed_in}
-use Rattle.llvm_core.specs.Form.{IsFormFunction, IsForm, constant_types, types_in, local_names, HasDistinctNames, IsFewIn, HasFew}
+use Rattle.llvm_core.specs.Form.{IsFormFunction, IsForm, constant_types, types_in, local_names, HasMadeOperands, HasDistinctNames, IsFewIn, HasFew}
 use Rattle.llvm_core.proofs.DataLemmas.{within_at}
 use Rattle.ll_literals.specs.Text.{Text}
 use Rattle.ll_literals.specs.Numbers.{number_limit}
@@ -23,7 +23,7 @@ use Rattle.ll_said.proofs.AlikeForm.{function_alike}
 use Rattle.ll_said.proofs.AlikeLists.{locals_alike, few_alike}
 use Rattle.ll_said.proofs.AlikeSaid.{function_same, unnamed_count}
 use Rattle.ll_said.proofs.AllLaws.{all_at}
-use Rattle.ll_said.proofs.ConstantLaws.{twins_constants}
+use Rattle.ll_said.proofs.ConstantLaws.{twins_constants, twin_made}
 use Rattle.ll_said.proofs.CountingLaws.{IsCounted, AreCounted, placed_number, block_number, count_placed, counted_map, counted_distinct, counted_blocks, counted_through, uncounted}
 use Rattle.ll_said.proofs.FileLaws.{file_says}
 use Rattle.ll_said.proofs.PairLaws.{FunctionsAlike, block_numbers, result_numbers}
@@ -63,8 +63,8 @@ module _ (f b n : ℕ) (x : Function) (form : IsFormFunction x) where
   twin_alike : FunctionsAlike x twin
   twin_alike = alike_to to x form
 
-  twin_said : function_of twin ≡ function_of x
-  twin_said = sym (function_same x twin twin_alike form.block_numbers blocks_distinct form.numbers placed_distinct)
+  twin_said : (structs : List Struct) → function_of structs twin ≡ function_of structs x
+  twin_said structs = sym (function_same x twin twin_alike form.block_numbers blocks_distinct form.numbers placed_distinct structs)
 
   twin_form : IsFormFunction twin
   twin_form = function_alike x twin twin_alike form.block_numbers blocks_distinct form.numbers placed_distinct form
@@ -100,11 +100,11 @@ twins_counted f b n (x ∷ xs) h =
       subst (λ (k : ℕ). AreCounted (suc f) (b + length twin_blocks) (n + k) rest) (sym (twin_count f b n x h.0)) blocks,
     )
 
-twins_said : (f b n : ℕ) (xs : List Function) → AllByRecursion IsFormFunction xs → map function_of (functions_from f b n xs) ≡ map function_of xs
-twins_said f b n [] h = refl
-twins_said f b n (x ∷ xs) h =
-    let one = twin_said f b n x h.0 in
-    let more = twins_said (suc f) (b + length x.blocks) (n + length (placed_in x)) xs h.1 in
+twins_said : (structs : List Struct) (f b n : ℕ) (xs : List Function) → AllByRecursion IsFormFunction xs → map (function_of structs) (functions_from f b n xs) ≡ map (function_of structs) xs
+twins_said structs f b n [] h = refl
+twins_said structs f b n (x ∷ xs) h =
+    let one = twin_said f b n x h.0 structs in
+    let more = twins_said structs (suc f) (b + length x.blocks) (n + length (placed_in x)) xs h.1 in
     λ i. one i ∷ more i
 
 twins_named : (f b n : ℕ) (xs : List Function) → map (λ (x : Function). x.name) (functions_from f b n xs) ≡ map (λ (x : Function). x.name) xs
@@ -156,7 +156,7 @@ is_numbered d h =
     record { functions = uncounted _ 0 _ through.functions; blocks = uncounted _ 0 _ through.blocks; instructions = uncounted _ 0 _ through.instructions }
 
 pub same_text : (d : ModuleData) → IsForm d → file_of (numbered d) ≡ file_of d
-same_text d h = ap (λ (fs : List L.Function). let m : L.File = record { source = source_of d.name; structs = map struct_of d.structs; functions = fs } in m) (twins_said 0 0 0 d.functions (forms d h))
+same_text d h = ap (λ (fs : List L.Function). let m : L.File = record { source = source_of d.name; structs = map struct_of d.structs; functions = fs } in m) (twins_said d.structs 0 0 0 d.functions (forms d h))
 
 -- the types in use are of both
 same_types : (d : ModuleData) → types_in (numbered d) ≡ types_in d
@@ -171,8 +171,12 @@ same_types d =
 keeps_nested : (d : ModuleData) → All (IsNested d.structs) (types_in d) → All (IsNested d.structs) (types_in (numbered d))
 keeps_nested d h = subst (λ (ts : List TypeTree). All (IsNested d.structs) ts) (sym (same_types d)) h
 
+-- and so are the constants
+keeps_made : (d : ModuleData) → All (HasMadeOperands d.structs) d.functions → All (HasMadeOperands d.structs) (numbered d).functions
+keeps_made d h = each_twin (HasMadeOperands d.structs) (HasMadeOperands d.structs) (λ f b n x made. twin_made d.structs (numbers_from f b n x) x made) d h
+
 pub keeps_form : (d : ModuleData) → IsForm d → IsForm (numbered d)
-keeps_form d h = record { functions = each_twin IsFormFunction IsFormFunction twin_form d h.functions; structs = h.structs; nested = keeps_nested d h.nested }
+keeps_form d h = record { functions = each_twin IsFormFunction IsFormFunction twin_form d h.functions; structs = h.structs; nested = keeps_nested d h.nested; elements = keeps_made d h.elements }
 
 -- names are of both, and so are the lengths of lists
 abbrev WithForm : (Function → Type 0) → Function → Type 0
@@ -204,6 +208,7 @@ keeps_sayable d h = record {
   structs = h.structs;
   struct_names = h.struct_names;
   nested = keeps_nested d h.nested;
+  elements = keeps_made d h.elements;
   name = h.name;
 }
 
@@ -212,6 +217,7 @@ form_of d h = record {
   functions = All-from_recursion IsFormFunction d.functions (all_at IsFormFunction d.functions (λ i x at. (within_at d.functions IsSayable h.functions i x at).form));
   structs = h.structs;
   nested = h.nested;
+  elements = h.elements;
 }
 
 -- the text of any data of the form says their twin

@@ -13,6 +13,7 @@ use Rattle.kinds.proofs.HeldLaws.{void_is, own_of, value_own, first_class_own}
 use Rattle.kinds.specs.Table.{rule_of}
 use Rattle.kinds.specs.Fitting.{is_written, takes_fit}
 use Rattle.kinds.specs.Typing.{fits_trees, given, typed}
+use Rattle.kinds.specs.Structs.{Struct}
 use Rattle.llvm_core.specs.Data.{Operand, RowData, Instruction, Phi, Applied, Function}
 use Rattle.llvm_core.specs.Form.{types_of, IsFormRow, IsFormInstruction}
 use Rattle.llvm_core.proofs.DataLemmas.{within_at}
@@ -48,17 +49,17 @@ typed_back op w ts fits valued =
     option_back (typed op w ts) (λ τ e. given_valued (rule_of op).gives w ts τ written valued (sym plain ∙ e))
 
 -- the types beside the operands are those of the operands
-pub types_said : (f : Function) (os : List Operand) → map (λ (x : Typed). x.type) (map (typed_of f) os) ≡ types_of f os
-types_said f [] = refl
-types_said f (o ∷ os) = ap (λ (ts : List TypeTree). types_of f (o ∷ []) ++ ts) (types_said f os)
+pub types_said : (structs : List Struct) (f : Function) (os : List Operand) → map (λ (x : Typed). x.type) (map (typed_of structs f) os) ≡ types_of f os
+types_said structs f [] = refl
+types_said structs f (o ∷ os) = ap (λ (ts : List TypeTree). types_of f (o ∷ []) ++ ts) (types_said structs f os)
 
-row_type : (f : Function) (type : TypeTree) (r : RowData) → IsFormRow f type r → result_type (inst_of f type (Applied r)) ≡ own_type type
-row_type f type r form =
+row_type : (structs : List Struct) (f : Function) (type : TypeTree) (r : RowData) → IsFormRow f type r → result_type (inst_of structs f type (Applied r)) ≡ own_type type
+row_type structs f type r form =
     let ts = types_of f r.operands in
     let valued : AreValued ts = λ i τ at. first_class_own τ (within_at ts IsFirstClass form.first_class i τ at) in
-    ap (typed r.op r.written) (types_said f r.operands) ∙ typed_back r.op r.written ts form.fits valued ∙ ap own_type (sym form.result)
+    ap (typed r.op r.written) (types_said structs f r.operands) ∙ typed_back r.op r.written ts form.fits valued ∙ ap own_type (sym form.result)
 
 -- a line gives what the instruction does
-pub type_said : (f : Function) (b : ℕ) (type : TypeTree) (i : Instruction) → IsFormInstruction f b type i → result_type (inst_of f type i) ≡ own_type type
-type_said f b type (Phi entries) form = sym (own_of type (first_class_own type form.2))
-type_said f b type (Applied r) form = row_type f type r form
+pub type_said : (structs : List Struct) (f : Function) (b : ℕ) (type : TypeTree) (i : Instruction) → IsFormInstruction f b type i → result_type (inst_of structs f type i) ≡ own_type type
+type_said structs f b type (Phi entries) form = sym (own_of type (first_class_own type form.2))
+type_said structs f b type (Applied r) form = row_type structs f type r form

@@ -107,7 +107,7 @@ lines = record {
             L.Label (codes "start:")
             ∷ line None (row_line O.Br [] (codes "%0" ∷ []))
             ∷ L.Label (codes "0:")
-            ∷ line (Some (codes "%1")) (L.Phi (IntType 8) (record { said = L.Const (D.IntConst 8 255); block = codes "%start" } ∷ record { said = L.Local (codes "%1"); block = codes "%0" } ∷ []))
+            ∷ line (Some (codes "%1")) (L.Phi (IntType 8) (record { said = L.Const (L.Plain (D.IntConst 8 255)); block = codes "%start" } ∷ record { said = L.Local (codes "%1"); block = codes "%0" } ∷ []))
             ∷ line None (row_line O.Br [] (codes "%0" ∷ []))
             ∷ [];
       } ∷ [];

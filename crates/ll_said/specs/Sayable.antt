@@ -6,7 +6,7 @@ use Rattle.support.specs.Interned.{IsDistinctList}
 use Rattle.kinds.specs.Structs.{IsFormStruct, IsNested}
 use Rattle.llvm_core.specs.Data.{Placed, Block, Function, Struct, ModuleData}
 use Rattle.llvm_core.specs.Data as L
-use Rattle.llvm_core.specs.Form.{IsFormFunction, types_in, local_names}
+use Rattle.llvm_core.specs.Form.{IsFormFunction, types_in, local_names, HasMadeOperands}
 use Rattle.ll_literals.specs.Numbers.{number_limit}
 use Rattle.ll_said.specs.Naming.{unnamed_in}
 
@@ -54,4 +54,5 @@ pub record IsSayableModule (d : ModuleData) : Type 0 where
   pub structs : All IsFormStruct d.structs
   pub struct_names : IsDistinctList (map (λ (s : Struct). s.name) d.structs)
   pub nested : All (IsNested d.structs) (types_in d)
+  pub elements : All (HasMadeOperands d.structs) d.functions
   pub name : is_utf8 d.name ≡ true

@@ -1,9 +1,9 @@
 //! What the text of module data says means the data, under numbers from 0 on in its order.
 
-ghost use Rattle.std.specs.Prelude.{◌≡◌, ℕ, true, Option, Some, All};
+ghost use Rattle.std.specs.Prelude.{◌≡◌, ℕ, true, List, Option, Some, All};
 ghost use Rattle.std.specs.Str.{is_utf8};
-ghost use Rattle.llvm_core.specs.Data.{Function, ModuleData};
-ghost use Rattle.llvm_core.specs.Form.{IsForm, HasDistinctNames, HasFew};
+ghost use Rattle.llvm_core.specs.Data.{Function, Struct, ModuleData};
+ghost use Rattle.llvm_core.specs.Form.{HasMadeOperands, IsForm, HasDistinctNames, HasFew};
 ghost use Rattle.ll_lines.specs.Lines.{File};
 ghost use Rattle.ll_bodies.specs.Meaning.{function_data, file_data};
 ghost use Rattle.ll_said.specs.Said.{function_of, file_of};
@@ -16,9 +16,10 @@ pub fn is_said_whole()
     ensures { (d : ModuleData) → IsForm d → HasDistinctNames d → All HasFewUnnamed d.functions → is_utf8 d.name ≡ true → IsSayableModule d }
 {}
 
-/// What the text of a function says means the function, where it is numbered from there.
+/// What the text of a function says means the function, where it is numbered from there and its constants have the elements that their
+/// types ask for.
 pub fn function_means_itself()
-    ensures { (f b n : ℕ) (x : Function) → IsSayable x → IsNumberedFrom f b n x → function_data f b n (function_of x) ≡ Some x }
+    ensures { (structs : List Struct) (f b n : ℕ) (x : Function) → IsSayable x → HasMadeOperands structs x → IsNumberedFrom f b n x → function_data structs f b n (function_of structs x) ≡ Some x }
 {}
 
 /// What the text of numbered data says means the data.

@@ -1,5 +1,5 @@
 -- What is said stays as types and constants are added.
-use Rattle.std.proofs.Common.{◌≡◌, ℕ, List, [], ◌∷◌, Option, Some, None, length, map, slice_get, refl, ap, ◌∙◌, subst, arith, All}
+use Rattle.std.proofs.Common.{◌≡◌, ◌<◌, ◌≤◌, ℕ, List, [], ◌∷◌, Option, Some, None, length, map, slice_get, slice_index_or, refl, ap, ◌∙◌, subst, arith, All}
 use Rattle.std.specs.Prelude.{IfSome}
 use Rattle.std.specs.Option.{option_map}
 use Rattle.std.proofs.lemmas.List.Elements.{All-head, All-tail, All-weaker}
@@ -15,6 +15,10 @@ use Rattle.llvm_core.specs.Sound.{IsModule}
 use Rattle.llvm_core.specs.Data.{ConstTree, trees_of, type_trees, const_trees, type_at, types_at, const_at, type_tree, data_of}
 use Rattle.llvm_core.proofs.TreeLemmas.{same_tree, type_at-kept, const_at-kept, const_trees-retyped}
 use Rattle.llvm_core.proofs.WithinLemmas.{const_types_within}
+use Rattle.ll_lines.specs.declared.lines.SaidConst.{SaidConst}
+use Rattle.ll_lines.specs.declared.lines.SaidConst.TheVariants as C
+use Rattle.ll_lines.specs.declared.lines.ConstLine.{ConstLine}
+use Rattle.ll_lines.specs.declared.lines.ConstLine.TheVariants as K
 use Rattle.ll_lines.specs.declared.lines.Said.{Said}
 use Rattle.ll_lines.specs.declared.lines.Said.TheVariants as S
 use Rattle.ll_lines.specs.declared.lines.Typed.{Typed}
@@ -23,7 +27,7 @@ use Rattle.ll_lines.specs.declared.lines.Param.{Param}
 use Rattle.ll_lines.specs.declared.lines.Inst.{Inst}
 use Rattle.ll_lines.specs.declared.lines.Inst.TheVariants as I
 use Rattle.ll_lines.specs.Lines as L
-use Rattle.ll_lines.specs.Views.{said_view, typed_view, incoming_view, inst_view, param_view, IsTypeIn, IsSaidIn, IsTypedIn, IsInstIn}
+use Rattle.ll_lines.specs.Views.{no_const, saids_of, const_view, const_line_view, said_view, typed_view, incoming_view, inst_view, param_view, IsTypeIn, IsConstIn, IsConstLineIn, IsSaidIn, IsTypedIn, IsInstIn}
 use Rattle.ll_values.specs.Growing.{Interns}
 
 pub none_interned : (m : Module) → IsModule m → Interns m m
@@ -95,41 +99,73 @@ map_same P f g same (x ∷ xs) h =
 pub all_item : {X : Type 0} (P : X → Type 0) (xs : List X) (i : ℕ) (x : X) → All P xs → slice_get xs i ≡ Some x → P x
 all_item P xs i x h e = subst P (get_or_from_slice_get xs i x x e) (h i x (slice_get_within xs i x e))
 
+-- ---- constants that are made of others
+
+-- what a table says at the places below a number is kept
+abbrev pub SaysSame : (made : ℕ) → (old new : List L.SaidConst) → Type 0
+SaysSame made old new = (p : ℕ) → p < made → slice_index_or new p no_const ≡ slice_index_or old p no_const
+
+module _ (bytes : List ℕ) (m n : Module) (g : Interns m n) (made : ℕ) (a b : List L.SaidConst) (same : SaysSame made a b) where
+  pub const_same : (c : SaidConst) → IsConstIn m made c → const_view bytes (trees_of n) b c ≡ const_view bytes (trees_of m) a c
+  const_same (C.Plain c) h = ap L.Plain (g.consts c h)
+  const_same (C.Made p) h = same p.0 h
+
+  pub consts_same : (cs : List SaidConst) → All (IsConstIn m made) cs → saids_of (map (const_view bytes (trees_of n) b) cs) ≡ saids_of (map (const_view bytes (trees_of m) a) cs)
+  consts_same cs h = ap saids_of (map_same (IsConstIn m made) (const_view bytes (trees_of n) b) (const_view bytes (trees_of m) a) const_same cs h)
+
+  pub const_line_same : (l : ConstLine) → IsConstLineIn m made l → const_line_view bytes (trees_of n) b l ≡ const_line_view bytes (trees_of m) a l
+  const_line_same (K.Chars ty t) h = rw (g.types ty h) refl
+  const_line_same (K.Listed ty brackets cs) h = rw (g.types ty h.0, consts_same cs h.1) refl
+  const_line_same (K.Splat ty c) h = rw (g.types ty h.0, const_same c h.1) refl
+
 -- ---- what is said
 
-module _ (bytes : List ℕ) (m n : Module) (g : Interns m n) where
-  pub said_same : (x : Said) → IsSaidIn m x → said_view bytes (trees_of n) x ≡ said_view bytes (trees_of m) x
+-- over a table that says the same
+module _ (bytes : List ℕ) (m n : Module) (g : Interns m n) (made : ℕ) (a b : List L.SaidConst) (same : SaysSame made a b) where
+  pub said_same : (x : Said) → IsSaidIn m made x → said_view bytes (trees_of n) b x ≡ said_view bytes (trees_of m) a x
   said_same (S.Local k) h = refl
-  said_same (S.Const c) h = ap L.Const (g.consts c h)
+  said_same (S.Const c) h = ap L.Const (const_same bytes m n g made a b same c h)
 
-  pub typed_same : (x : Typed) → IsTypedIn m x → typed_view bytes (trees_of n) x ≡ typed_view bytes (trees_of m) x
+  pub typed_same : (x : Typed) → IsTypedIn m made x → typed_view bytes (trees_of n) b x ≡ typed_view bytes (trees_of m) a x
   typed_same x h = rw (g.types x.ty h.0, said_same x.said h.1) refl
 
-  pub incoming_same : (e : Incoming) → IsSaidIn m e.said → incoming_view bytes (trees_of n) e ≡ incoming_view bytes (trees_of m) e
+  pub incoming_same : (e : Incoming) → IsSaidIn m made e.said → incoming_view bytes (trees_of n) b e ≡ incoming_view bytes (trees_of m) a e
   incoming_same e h = rw (said_same e.said h) refl
-
-  pub param_same : (p : Param) → IsTypeIn m p.ty → param_view bytes (trees_of n) p ≡ param_view bytes (trees_of m) p
-  param_same p h = rw (g.types p.ty h) refl
 
   written_same : (o : Option LLVMType) → IfSome o (IsTypeIn m) → option_map (type_at (trees_of n).types) o ≡ option_map (type_at (trees_of m).types) o
   written_same None h = refl
   written_same (Some t) h = ap Some (g.types t h)
 
-  pub inst_same : (i : Inst) → IsInstIn m i → inst_view bytes (trees_of n) i ≡ inst_view bytes (trees_of m) i
-  inst_same (I.Phi ty es) h = rw (g.types ty h.0, map_same (λ (e : Incoming). IsSaidIn m e.said) (incoming_view bytes (trees_of n)) (incoming_view bytes (trees_of m)) incoming_same es h.1) refl
-  inst_same (I.Row r) h = rw (written_same r.written h.0, map_same (IsTypedIn m) (typed_view bytes (trees_of n)) (typed_view bytes (trees_of m)) typed_same r.operands h.1) refl
+  pub inst_same : (i : Inst) → IsInstIn m made i → inst_view bytes (trees_of n) b i ≡ inst_view bytes (trees_of m) a i
+  inst_same (I.Phi ty es) h = rw (g.types ty h.0, map_same (λ (e : Incoming). IsSaidIn m made e.said) (incoming_view bytes (trees_of n) b) (incoming_view bytes (trees_of m) a) incoming_same es h.1) refl
+  inst_same (I.Row r) h = rw (written_same r.written h.0, map_same (IsTypedIn m made) (typed_view bytes (trees_of n) b) (typed_view bytes (trees_of m) a) typed_same r.operands h.1) refl
 
-  pub said_there : (x : Said) → IsSaidIn m x → IsSaidIn n x
+pub param_same : (bytes : List ℕ) (m n : Module) (g : Interns m n) (p : Param) → IsTypeIn m p.ty → param_view bytes (trees_of n) p ≡ param_view bytes (trees_of m) p
+param_same bytes m n g p h = rw (g.types p.ty h) refl
+
+-- ---- what is there
+
+module _ (m n : Module) (g : Interns m n) (made more : ℕ) (longer : made ≤ more) where
+  pub const_there : (c : SaidConst) → IsConstIn m made c → IsConstIn n more c
+  const_there (C.Plain c) h = omega (arith, g.const_count, h)
+  const_there (C.Made p) h = omega (arith, longer, h)
+
+  pub const_line_there : (l : ConstLine) → IsConstLineIn m made l → IsConstLineIn n more l
+  const_line_there (K.Chars ty t) h = omega (arith, g.type_count, h)
+  const_line_there (K.Listed ty brackets cs) h = (omega (arith, g.type_count, h.0), All-weaker (IsConstIn m made) (IsConstIn n more) const_there cs h.1)
+  const_line_there (K.Splat ty c) h = (omega (arith, g.type_count, h.0), const_there c h.1)
+
+  pub said_there : (x : Said) → IsSaidIn m made x → IsSaidIn n more x
   said_there (S.Local k) h = tt
-  said_there (S.Const c) h = omega (arith, g.const_count, h)
+  said_there (S.Const c) h = const_there c h
 
-  pub typed_there : (x : Typed) → IsTypedIn m x → IsTypedIn n x
+  pub typed_there : (x : Typed) → IsTypedIn m made x → IsTypedIn n more x
   typed_there x h = (omega (arith, g.type_count, h.0), said_there x.said h.1)
 
   written_there : (o : Option LLVMType) → IfSome o (IsTypeIn m) → IfSome o (IsTypeIn n)
   written_there None h = h
   written_there (Some t) h = omega (arith, g.type_count, h)
 
-  pub inst_there : (i : Inst) → IsInstIn m i → IsInstIn n i
-  inst_there (I.Phi ty es) h = (omega (arith, g.type_count, h.0), All-weaker (λ (e : Incoming). IsSaidIn m e.said) (λ (e : Incoming). IsSaidIn n e.said) (λ e x. said_there e.said x) es h.1)
-  inst_there (I.Row r) h = (written_there r.written h.0, All-weaker (IsTypedIn m) (IsTypedIn n) typed_there r.operands h.1)
+  pub inst_there : (i : Inst) → IsInstIn m made i → IsInstIn n more i
+  inst_there (I.Phi ty es) h = (omega (arith, g.type_count, h.0), All-weaker (λ (e : Incoming). IsSaidIn m made e.said) (λ (e : Incoming). IsSaidIn n more e.said) (λ e x. said_there e.said x) es h.1)
+  inst_there (I.Row r) h = (written_there r.written h.0, All-weaker (IsTypedIn m made) (IsTypedIn n more) typed_there r.operands h.1)

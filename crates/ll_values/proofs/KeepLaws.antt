@@ -8,8 +8,12 @@ use Rattle.llvm_core.specs.Module.{Module}
 use Rattle.llvm_core.specs.declared.numbers.LLVMType.{LLVMType}
 use Rattle.llvm_core.specs.Data.{trees_of}
 use Rattle.ll_lines.specs.declared.lines.Param.{Param}
-use Rattle.ll_lines.specs.Views.{param_view, IsTypeIn, IsInstIn}
+use Rattle.ll_lines.specs.declared.lines.Said.{Said}
+use Rattle.ll_lines.specs.Views.{said_view, param_view, IsTypeIn, IsConstIn, IsSaidIn, IsInstIn}
 use Rattle.ll_values.specs.declared.store.Store.{Store}
+use Rattle.ll_values.specs.declared.value.Literal.{Literal}
+use Rattle.ll_values.specs.declared.value.Literal.TheVariants as L
+use Rattle.ll_values.specs.declared.value.Entry.{Entry}
 use Rattle.ll_values.specs.declared.value.Piece.{Piece}
 use Rattle.ll_values.specs.declared.value.Piece.TheVariants as P
 use Rattle.ll_values.specs.declared.value.Fields.{Fields}
@@ -20,10 +24,11 @@ use Rattle.ll_values.specs.declared.value.Value.TheVariants as V
 use Rattle.ll_values.specs.Lists.{list_at}
 use Rattle.ll_values.specs.Values as S
 use Rattle.ll_values.specs.Values.{are_fields}
-use Rattle.ll_values.specs.Views.{inst_at, part_view, body_at, types_in, params_at, fields_view, structure_view, structs_at, definition_view, functions_at, value_view, AreFieldsOf, IsPieceIn, IsStructureIn, IsDefinitionIn, IsValueIn, IsStoreIn}
+use Rattle.ll_values.specs.Views.{table_of, made_in, consts_at, literal_view, entry_view, entries_at, inst_at, part_view, body_at, types_in, params_at, fields_view, structure_view, structs_at, definition_view, functions_at, value_view, AreFieldsOf, IsLiteralIn, IsEntryIn, IsPieceIn, IsStructureIn, IsDefinitionIn, IsValueIn, IsStoreIn}
 use Rattle.ll_values.specs.Growing.{Interns, KeepsLists, Keeps}
 use Rattle.ll_values.proofs.ListLaws.{at_front}
-use Rattle.ll_values.proofs.GrowLaws.{map_same, all_item, trees_same, inst_same, param_same, typed_same, said_same, inst_there, typed_there, said_there}
+use Rattle.ll_values.proofs.GrowLaws.{SaysSame, map_same, all_item, trees_same, const_same, consts_same, inst_same, param_same, typed_same, said_same, const_there, inst_there, typed_there, said_there}
+use Rattle.ll_values.proofs.TableLaws.{table_kept, table_twice, table_longer, table_there, table_says}
 
 -- the items of a list among lists
 pub all_at : {T : Type 0} (Q : T → Type 0) (ls : List (List T)) (n : ℕ) → All (All Q) ls → n ≤ length ls → All Q (list_at ls n)
@@ -43,10 +48,12 @@ lists_twice : {T : Type 0} (a b c : List (List T)) → KeepsLists a b → KeepsL
 lists_twice a b c g h = record { count = omega (arith, g.count, h.count); at = λ n le. h.at n (omega (arith, g.count, le)) ∙ g.at n le }
 
 pub store_kept : (s : Store) → Keeps s s
-store_kept s = record { inst_count = omega arith; insts = λ n h. refl; entries = lists_kept s.entries; bodies = lists_kept s.bodies; types = lists_kept s.types; params = lists_kept s.params; structs = lists_kept s.structs; functions = lists_kept s.functions }
+store_kept s = record { table = table_kept s.table.items; consts = lists_kept s.consts; inst_count = omega arith; insts = λ n h. refl; entries = lists_kept s.entries; bodies = lists_kept s.bodies; types = lists_kept s.types; params = lists_kept s.params; structs = lists_kept s.structs; functions = lists_kept s.functions }
 
 pub kept_twice : (a b c : Store) → Keeps a b → Keeps b c → Keeps a c
 kept_twice a b c g h = record {
+  table = table_twice a.table.items b.table.items c.table.items g.table h.table;
+  consts = lists_twice a.consts b.consts c.consts g.consts h.consts;
   inst_count = omega (arith, g.inst_count, h.inst_count);
   insts = λ n lt. h.insts n (omega (arith, g.inst_count, lt)) ∙ g.insts n lt;
   entries = lists_twice a.entries b.entries c.entries g.entries h.entries;
@@ -69,11 +76,23 @@ module _ (m n : Module) (old new : List (List LLVMType)) (g : Interns m n) (k : 
   optional_there None h = h
   optional_there (Some b) h = fields_there b h
 
+-- so do literals
+pub literal_there : (m n : Module) (s t : Store) → Interns m n → Keeps s t → (l : Literal) → IsLiteralIn m s l → IsLiteralIn n t l
+literal_there m n s t g k (L.Local i) h = tt
+literal_there m n s t g k (L.Const i) h = tt
+literal_there m n s t g k L.Null h = tt
+literal_there m n s t g k (L.Chars i) h = tt
+literal_there m n s t g k (L.Listed brackets i) h = omega (arith, k.consts.count, h)
+literal_there m n s t g k (L.Splat c) h = const_there m n g (made_in s) (made_in t) (table_longer s.table.items t.table.items k.table) c h
+
 -- a store stays right as types and constants are added
 pub store_there : (m n : Module) (s : Store) → Interns m n → IsStoreIn m s → IsStoreIn n s
 store_there m n s g st = record {
   sound = g.sound;
-  insts = All-weaker (IsInstIn m) (IsInstIn n) (inst_there [] m n g) s.insts.items st.insts;
+  table = table_there m n g s.table.items st.table;
+  consts = all_lists (IsConstIn m (made_in s)) (IsConstIn n (made_in s)) (const_there m n g (made_in s) (made_in s) (omega arith)) s.consts st.consts;
+  insts = All-weaker (IsInstIn m (made_in s)) (IsInstIn n (made_in s)) (inst_there m n g (made_in s) (made_in s) (omega arith)) s.insts.items st.insts;
+  entries = all_lists (IsEntryIn m s) (IsEntryIn n s) (λ e h. literal_there m n s s g (store_kept s) e.literal h) s.entries st.entries;
   bodies = all_lists (IsPieceIn m s) (IsPieceIn n s) piece s.bodies st.bodies;
   types = all_lists (IsTypeIn m) (IsTypeIn n) (λ t h. omega (arith, g.type_count, h)) s.types st.types;
   params = all_lists (λ (p : Param). IsTypeIn m p.ty) (λ (p : Param). IsTypeIn n p.ty) (λ p h. omega (arith, g.type_count, h)) s.params st.params;
@@ -85,12 +104,43 @@ store_there m n s g st = record {
     piece (P.Label k) h = tt
     piece (P.Does name i) h = h
 
+-- what a table says stays
+pub says_same : (bytes : List ℕ) (m n : Module) (s t : Store) → Interns m n → Keeps s t → IsStoreIn m s → SaysSame (made_in s) (table_of bytes (trees_of m) s) (table_of bytes (trees_of n) t)
+says_same bytes m n s t g k st = table_says bytes m n g s.table.items t.table.items k.table st.table
+
 module _ (bytes : List ℕ) (m n : Module) (s t : Store) (g : Interns m n) (k : Keeps s t) (st : IsStoreIn m s) where
+  same_says : SaysSame (made_in s) (table_of bytes (trees_of m) s) (table_of bytes (trees_of n) t)
+  same_says = says_same bytes m n s t g k st
+
+  pub consts_at_same : (i : ℕ) → i ≤ length s.consts → consts_at bytes (trees_of n) t i ≡ consts_at bytes (trees_of m) s i
+  consts_at_same i h =
+      rw (k.consts.at i h) (consts_same bytes m n g (made_in s) (table_of bytes (trees_of m) s) (table_of bytes (trees_of n) t) same_says (list_at s.consts i) (all_at (IsConstIn m (made_in s)) s.consts i st.consts h))
+
+  pub literal_same : (l : Literal) → IsLiteralIn m s l → literal_view bytes (trees_of n) t l ≡ literal_view bytes (trees_of m) s l
+  literal_same (L.Local i) h = refl
+  literal_same (L.Const i) h = refl
+  literal_same L.Null h = refl
+  literal_same (L.Chars i) h = refl
+  literal_same (L.Listed brackets i) h = ap (S.ListedL brackets) (consts_at_same i h)
+  literal_same (L.Splat c) h = ap S.SplatL (const_same bytes m n g (made_in s) (table_of bytes (trees_of m) s) (table_of bytes (trees_of n) t) same_says c h)
+
+  pub entry_same : (e : Entry) → IsEntryIn m s e → entry_view bytes (trees_of n) t e ≡ entry_view bytes (trees_of m) s e
+  entry_same e h = rw (literal_same e.literal h) refl
+
+  pub entries_at_same : (i : ℕ) → i ≤ length s.entries → entries_at bytes (trees_of n) t i ≡ entries_at bytes (trees_of m) s i
+  entries_at_same i h = rw (k.entries.at i h) (map_same (IsEntryIn m s) (entry_view bytes (trees_of n) t) (entry_view bytes (trees_of m) s) entry_same (list_at s.entries i) (all_at (IsEntryIn m s) s.entries i st.entries h))
+
+  pub said_kept : (x : Said) → IsSaidIn m (made_in s) x → said_view bytes (trees_of n) (table_of bytes (trees_of n) t) x ≡ said_view bytes (trees_of m) (table_of bytes (trees_of m) s) x
+  said_kept x h = said_same bytes m n g (made_in s) (table_of bytes (trees_of m) s) (table_of bytes (trees_of n) t) same_says x h
+
+  pub said_stays : (x : Said) → IsSaidIn m (made_in s) x → IsSaidIn n (made_in t) x
+  said_stays x h = said_there m n g (made_in s) (made_in t) (table_longer s.table.items t.table.items k.table) x h
+
   pub inst_at_same : (i : ℕ) → i < length s.insts.items → inst_at bytes (trees_of n) t i ≡ inst_at bytes (trees_of m) s i
   inst_at_same i h =
       let x = item_there s.insts.items i h in
       let new : slice_get t.insts.items i ≡ Some x.0 = k.insts i h ∙ x.1 in
-      rw (new, x.1) (inst_same bytes m n g x.0 (all_item (IsInstIn m) s.insts.items i x.0 st.insts x.1))
+      rw (new, x.1) (inst_same bytes m n g (made_in s) (table_of bytes (trees_of m) s) (table_of bytes (trees_of n) t) same_says x.0 (all_item (IsInstIn m (made_in s)) s.insts.items i x.0 st.insts x.1))
 
   pub piece_same : (p : Piece) → IsPieceIn m s p → part_view bytes (trees_of n) t p ≡ part_view bytes (trees_of m) s p
   piece_same (P.Label l) h = refl
@@ -135,12 +185,14 @@ module _ (bytes : List ℕ) (m n : Module) (s t : Store) (g : Interns m n) (k : 
   value_same (V.Wraps flags) h = refl
   value_same (V.Type ty) h = rw (g.types ty h) refl
   value_same (V.Types i) h = ap S.TypesV (types_same i h)
-  value_same (V.Literal l) h = refl
-  value_same (V.Typed x) h = ap S.TypedV (typed_same bytes m n g x h)
+  value_same (V.Literal l) h = ap S.LiteralV (literal_same l h)
+  value_same (V.Consts i) h = ap S.ConstsV (consts_at_same i h)
+  value_same (V.Braced l i) h = rw (literal_same l h.0, consts_at_same i h.1) refl
+  value_same (V.Typed x) h = ap S.TypedV (typed_same bytes m n g (made_in s) (table_of bytes (trees_of m) s) (table_of bytes (trees_of n) t) same_says x h)
   value_same (V.Space i) h = refl
-  value_same (V.Pair ty a b) h = rw (g.types ty h.0, said_same bytes m n g a h.1, said_same bytes m n g b h.2) refl
-  value_same (V.Entry e) h = refl
-  value_same (V.Entries i) h = rw (k.entries.at i h) refl
+  value_same (V.Pair ty a b) h = rw (g.types ty h.0, said_kept a h.1, said_kept b h.2) refl
+  value_same (V.Entry e) h = ap S.EntryV (entry_same e h)
+  value_same (V.Entries i) h = ap S.EntriesV (entries_at_same i h)
   value_same (V.Inst i) h = rw (inst_at_same i h) refl
   value_same (V.Part p) h = ap S.PartV (piece_same p h)
   value_same (V.Body i) h = ap S.BodyV (body_same i h)
@@ -167,11 +219,13 @@ module _ (bytes : List ℕ) (m n : Module) (s t : Store) (g : Interns m n) (k : 
   value_there (V.Wraps flags) h = tt
   value_there (V.Type ty) h = omega (arith, g.type_count, h)
   value_there (V.Types i) h = omega (arith, k.types.count, h)
-  value_there (V.Literal l) h = tt
-  value_there (V.Typed x) h = typed_there bytes m n g x h
+  value_there (V.Literal l) h = literal_there m n s t g k l h
+  value_there (V.Consts i) h = omega (arith, k.consts.count, h)
+  value_there (V.Braced l i) h = (literal_there m n s t g k l h.0, omega (arith, k.consts.count, h.1))
+  value_there (V.Typed x) h = typed_there m n g (made_in s) (made_in t) (table_longer s.table.items t.table.items k.table) x h
   value_there (V.Space i) h = tt
-  value_there (V.Pair ty a b) h = (omega (arith, g.type_count, h.0), said_there bytes m n g a h.1, said_there bytes m n g b h.2)
-  value_there (V.Entry e) h = tt
+  value_there (V.Pair ty a b) h = (omega (arith, g.type_count, h.0), said_stays a h.1, said_stays b h.2)
+  value_there (V.Entry e) h = literal_there m n s t g k e.literal h
   value_there (V.Entries i) h = omega (arith, k.entries.count, h)
   value_there (V.Inst i) h = omega (arith, k.inst_count, h)
   value_there (V.Part p) h = piece_there p h

@@ -1,13 +1,13 @@
 -- What is made of parts, where the store stays as it is.
 use Rattle.std.proofs.Common.{◌≡◌, ℕ, List, [], ◌∷◌, Option, Some, None, Result, Ok, Err, map, refl, ap, sym, ◌∙◌, arith}
-use Rattle.std.specs.Prelude.{IfSome, IfOk, OnOk}
+use Rattle.std.specs.Prelude.{IfSome, IfOk}
 use Rattle.std.specs.Option.{ok_or}
 use Rattle.llvm_core.specs.declared.numbers.LLVMType.{LLVMType}
 use Rattle.llvm_core.specs.Module.{Module}
 use Rattle.llvm_core.specs.Data.{Trees, trees_of, type_at}
 use Rattle.ll_lines.specs.declared.names.Name.{Name}
 use Rattle.ll_lines.specs.declared.lines.Said.{Said}
-use Rattle.ll_lines.specs.Views.{said_view, IsTypeIn, IsSaidIn}
+use Rattle.ll_lines.specs.Views.{said_view, IsTypeIn}
 use Rattle.ll_values.specs.declared.form.Kind.{Kind}
 use Rattle.ll_values.specs.declared.form.Kind.TheVariants as K
 use Rattle.ll_values.specs.declared.form.TypedKind.{TypedKind}
@@ -20,10 +20,10 @@ use Rattle.ll_values.specs.declared.value.Value.TheVariants as V
 use Rattle.ll_values.specs.declared.value_err.ValueErr.{ValueErr}
 use Rattle.ll_values.specs.declared.value_err.ValueErr.TheVariants.{NotYet}
 use Rattle.ll_values.specs.Values.{FieldsV, value_by, typed_by, said}
-use Rattle.ll_values.specs.Views.{literal_view, fields_view, value_view, AreFieldsOf, IsValueIn, IsStoreIn}
-use Rattle.ll_values.specs.Growing.{Interns, Makes}
-use Rattle.ll_values.proofs.GrowLaws.{none_interned, interned_twice, said_same, said_there}
-use Rattle.ll_values.proofs.KeepLaws.{store_kept, store_there}
+use Rattle.ll_values.specs.Views.{table_of, literal_view, fields_view, value_view, AreFieldsOf, IsLiteralIn, IsValueIn, IsStoreIn}
+use Rattle.ll_values.specs.Growing.{Interns, Says, Makes}
+use Rattle.ll_values.proofs.GrowLaws.{none_interned, interned_twice}
+use Rattle.ll_values.proofs.KeepLaws.{store_kept, kept_twice, literal_same, said_kept, said_stays}
 
 module _ (bytes : List ℕ) (m : Module) (s : Store) (st : IsStoreIn m s) where
   -- nothing is added
@@ -36,38 +36,43 @@ module _ (bytes : List ℕ) (m : Module) (s : Store) (st : IsStoreIn m s) where
   makes_fields k ps None made there = tt
   makes_fields k ps (Some b) made there = makes_only (K.Typed k) ps (V.Fields (Some b)) there made
 
-  module _ (n : Module) (g : Interns m n) (ty : LLVMType) (h : IsTypeIn m ty) (a : Literal) (x : Said) (hx : IsSaidIn n x) (says : said (type_at (trees_of m).types ty) (literal_view bytes a) ≡ Some (said_view bytes (trees_of n) x)) where
-    -- a literal at a type
-    makes_one : Makes bytes m n s s (K.Typed T.Typed) (V.Type ty ∷ V.Literal a ∷ []) (V.Typed (record { ty = ty; said = x }))
+  -- a literal at a type that is there
+  module _ (n : Module) (t : Store) (ty : LLVMType) (h : IsTypeIn m ty) (a : Literal) (x : Said) (says : Says bytes m n s t (said (type_at (trees_of m).types ty) (literal_view bytes (trees_of m) s a)) x) where
+    pub makes_one : Makes bytes m n s t (K.Typed T.Typed) (V.Type ty ∷ V.Literal a ∷ []) (V.Typed (record { ty = ty; said = x }))
     makes_one = record {
-      interns = g;
-      store = store_there m n s g st;
-      keeps = store_kept s;
-      there = (omega (arith, g.type_count, h), hx);
-      value = rw (says, g.types ty h) refl;
+      interns = says.interns;
+      store = says.store;
+      keeps = says.keeps;
+      there = (omega (arith, says.interns.type_count, h), says.there);
+      value = rw (says.value, says.interns.types ty h) refl;
     }
 
     -- and one more
-    pub makes_pair : (p : Module) → Interns n p → (b : Literal) (y : Said) → IsSaidIn p y → said (type_at (trees_of n).types ty) (literal_view bytes b) ≡ Some (said_view bytes (trees_of p) y) → Makes bytes m p s s (K.Typed T.Pair) (V.Type ty ∷ V.Literal a ∷ V.Literal b ∷ []) (V.Pair ty x y)
-    makes_pair p k b y hy more = record {
+    pub makes_pair : (p : Module) (u : Store) (b : Literal) (y : Said) → IsLiteralIn m s b → Says bytes n p t u (said (type_at (trees_of n).types ty) (literal_view bytes (trees_of n) t b)) y
+        → Makes bytes m p s u (K.Typed T.Pair) (V.Type ty ∷ V.Literal a ∷ V.Literal b ∷ []) (V.Pair ty x y)
+    makes_pair p u b y hb more = record {
       interns = both;
-      store = store_there m p s both st;
-      keeps = store_kept s;
-      there = (omega (arith, both.type_count, h), said_there bytes n p k x hx, hy);
-      value = rw (says, second, both.types ty h, said_same bytes n p k x hx) refl;
+      store = more.store;
+      keeps = kept_twice s t u says.keeps more.keeps;
+      there = (omega (arith, both.type_count, h), said_stays bytes n p t u more.interns more.keeps says.store x says.there, more.there);
+      value = rw (says.value, second, both.types ty h, said_kept bytes n p t u more.interns more.keeps says.store x says.there) refl;
     }
       where
         both : Interns m p
-        both = interned_twice m n p g k
+        both = interned_twice m n p says.interns more.interns
 
-        second : said (type_at (trees_of m).types ty) (literal_view bytes b) ≡ Some (said_view bytes (trees_of p) y)
-        second = ap (λ τ. said τ (literal_view bytes b)) (sym (g.types ty h)) ∙ more
+        second : said (type_at (trees_of m).types ty) (literal_view bytes (trees_of m) s b) ≡ Some (said_view bytes (trees_of p) (table_of bytes (trees_of p) u) y)
+        second = ap (λ τ. said τ (literal_view bytes (trees_of m) s b)) (sym (says.interns.types ty h)) ∙ ap (said (type_at (trees_of n).types ty)) (sym (literal_same bytes m n s t says.interns says.keeps st b hb)) ∙ more.value
+
+    -- nothing is said of the other
+    pub pair_none : (b : Literal) → IsLiteralIn m s b → said (type_at (trees_of n).types ty) (literal_view bytes (trees_of n) t b) ≡ None → said (type_at (trees_of m).types ty) (literal_view bytes (trees_of m) s b) ≡ None
+    pair_none b hb none = ap (λ τ. said τ (literal_view bytes (trees_of m) s b)) (sym (says.interns.types ty h)) ∙ ap (said (type_at (trees_of n).types ty)) (sym (literal_same bytes m n s t says.interns says.keeps st b hb)) ∙ none
 
   -- a literal, where it says something at the type
-  pub makes_said : (n : Module) (ty : LLVMType) (a : Literal) (r : Result Said ValueErr) → IsTypeIn m ty → OnOk r (Interns m n) → IfOk r (IsSaidIn n) → IfOk r (λ x. said (type_at (trees_of m).types ty) (literal_view bytes a) ≡ Some (said_view bytes (trees_of n) x))
-      → IfOk r (λ x. Makes bytes m n s s (K.Typed T.Typed) (V.Type ty ∷ V.Literal a ∷ []) (V.Typed (record { ty = ty; said = x })))
-  makes_said n ty a (Ok x) h g hx says = makes_one n g ty h a x hx says
-  makes_said n ty a (Err e) h g hx says = tt
+  pub makes_said : (n : Module) (t : Store) (ty : LLVMType) (a : Literal) (r : Result Said ValueErr) → IsTypeIn m ty → IfOk r (Says bytes m n s t (said (type_at (trees_of m).types ty) (literal_view bytes (trees_of m) s a)))
+      → IfOk r (λ x. Makes bytes m n s t (K.Typed T.Typed) (V.Type ty ∷ V.Literal a ∷ []) (V.Typed (record { ty = ty; said = x })))
+  makes_said n t ty a (Ok x) h says = makes_one n t ty h a x says
+  makes_said n t ty a (Err e) h says = tt
 
 -- where the only part is no token, no struct is named
 pub no_name : (bytes : List ℕ) (t : Trees) (s : Store) (ps : List code.Value) → ((n : Name) → ps ≡ V.Text n ∷ [] → ⊥) → typed_by T.Named (map (value_view bytes t s) ps) ≡ None

@@ -1,6 +1,6 @@
 -- What a literal says at a type.
 use Rattle.std.proofs.Common.{◌≡◌, ◌≢◌, ◌<◌, ◌≤◌, ℕ, Bool, true, false, if◌then◌else◌, inl, inr, List, [], ◌∷◌, ◌++◌, Option, Some, None, length, length-append, slice_get, get_or, refl, ap, sym, ◌∙◌, arith}
-use Rattle.std.specs.Prelude.{IfSome, IfOk, Result, Ok, Err}
+use Rattle.std.specs.Prelude.{IfSome, IfOk, OnOk, Result, Ok, Err}
 use Rattle.std.specs.Option.{option_map, option_map_or}
 use Rattle.std.proofs.lemmas.Option.{slice_get_within}
 use Rattle.std.proofs.lemmas.List.{append-nil}
@@ -29,12 +29,20 @@ use Rattle.llvm_core.proofs.TreeLemmas.{same_parts, const_at-kept}
 use Rattle.llvm_core.proofs.RuleLaws.{shape_kept}
 use Rattle.llvm_core.proofs.WholeTypes.{shape_there}
 use Rattle.ll_literals.specs.Literals.{const_value}
-use Rattle.ll_lines.specs.Lines.{Text, Const}
+use Rattle.ll_lines.specs.Lines.{Text, SaidConst, Local, Const}
+use Rattle.ll_lines.specs.declared.names.Name.{Name}
+use Rattle.ll_lines.specs.declared.lines.SaidConst as code_const
 use Rattle.ll_lines.specs.declared.lines.Said.{Said}
-use Rattle.ll_lines.specs.Views.{said_view}
+use Rattle.ll_lines.specs.declared.lines.Said.TheVariants as Told
+use Rattle.ll_lines.specs.Views.{text_of, said_view, IsSaidIn}
+use Rattle.ll_values.specs.declared.store.Store.{Store}
 use Rattle.ll_values.specs.declared.value_err.ValueErr.{ValueErr}
 use Rattle.ll_values.specs.Words.{fill_of}
-use Rattle.ll_values.specs.Values.{int_const, const_of, null_of}
+use Rattle.ll_values.specs.Values.{plain, int_const, const_of, null_of}
+use Rattle.ll_values.specs.Views.{table_of, made_in, IsStoreIn}
+use Rattle.ll_values.specs.Growing.{Interns, KeptConst, Says}
+use Rattle.ll_values.proofs.GrowLaws.{none_interned}
+use Rattle.ll_values.proofs.KeepLaws.{store_kept, store_there}
 
 -- ---- integers
 
@@ -117,8 +125,19 @@ given_const m n c k s same interned =
         ∙ const_at-kept (type_trees m.types) m.consts grown.0 j (omega (arith, below, grown.2)))
 
 -- what is read as a constant is said as one
-pub said_by : (m n : Module) (bytes : Text) (o : Option ConstTree) (kind : Option LLVMConstKind) (r : Result Said ValueErr) → (let tree = const_tree (trees_of m).types (trees_of m).consts in IfSome kind (λ k. o ≡ Some (tree (one_form m k))) → (kind ≡ None → o ≡ None)
-    → IfOk r (λ x. (bytes : Text) → option_map (λ k. Const (tree (one_form m k))) kind ≡ Some (said_view bytes (trees_of n) x)) → IfOk r (λ x. option_map Const o ≡ Some (said_view bytes (trees_of n) x)))
-said_by m n bytes o kind (Err e) is none says = tt
-said_by m n bytes o None (Ok x) is none says = absurd (let never = says bytes in cc (never))
-said_by m n bytes o (Some k) (Ok x) is none says = ap (option_map Const) is ∙ says bytes
+pub said_by : (m n : Module) (s : Store) (bytes : Text) (o : Option ConstTree) (kind : Option LLVMConstKind) (r : Result Said ValueErr) → IsStoreIn m s
+    → (let tree = const_tree (trees_of m).types (trees_of m).consts in IfSome kind (λ k. o ≡ Some (tree (one_form m k))) → (kind ≡ None → o ≡ None)
+    → OnOk r (Interns m n) → IfOk r (λ x. (made : ℕ) → IsSaidIn n made x)
+    → IfOk r (λ x. (bytes : Text) (table : List SaidConst) → option_map (λ k. plain (tree (one_form m k))) kind ≡ Some (said_view bytes (trees_of n) table x)) → IfOk r (Says bytes m n s s (option_map plain o)))
+said_by m n s bytes o kind (Err e) st is none g there says = tt
+said_by m n s bytes o None (Ok x) st is none g there says = absurd (let never = says bytes [] in cc (never))
+said_by m n s bytes o (Some k) (Ok x) st is none g there says =
+    record { interns = g; store = store_there m n s g st; keeps = store_kept s; there = there (made_in s); value = ap (option_map plain) is ∙ says bytes (table_of bytes (trees_of n) s) }
+
+-- a local is a name still
+pub said_local : (m : Module) (s : Store) (bytes : Text) (name : Name) → IsStoreIn m s → Says bytes m m s s (Some (Local (text_of bytes name))) (Told.Local name)
+said_local m s bytes name st = record { interns = none_interned m st.sound; store = st; keeps = store_kept s; there = tt; value = refl }
+
+-- so is a constant that the table has now
+pub said_made : (m : Module) (s t : Store) (bytes : Text) (made : SaidConst) (c : code_const.SaidConst) → KeptConst bytes m s t made c → Says bytes m m s t (Some (Const made)) (Told.Const c)
+said_made m s t bytes made c kept = record { interns = none_interned m kept.store.sound; store = kept.store; keeps = kept.keeps; there = kept.there; value = ap (λ (x : SaidConst). Some (Const x)) (sym kept.value) }

@@ -9,7 +9,7 @@ use Rattle.ll_lines.specs.declared.lines.Inst.{Inst}
 use Rattle.ll_lines.specs.Views.{inst_view, IsInstIn}
 use Rattle.ll_values.specs.declared.store.Store.{Store}
 use Rattle.ll_values.specs.Lists.{list_at}
-use Rattle.ll_values.specs.Views.{inst_at, IsStoreIn}
+use Rattle.ll_values.specs.Views.{table_of, made_in, inst_at, IsStoreIn}
 use Rattle.ll_values.proofs.GrowLaws.{all_item}
 use Rattle.ll_values.proofs.KeepLaws.{all_at}
 
@@ -31,8 +31,8 @@ pub first_there : {Y : Type 0} (P : Y → Type 0) (lists : List (List Y)) (next 
 first_there P lists next rest y all le is = All-head P y (list_at lists rest) (subst (All P) is (all_at P lists next all le))
 
 -- the instruction of a number
-pub inst_here : (bytes : List ℕ) (t : Trees) (s : Store) (n : ℕ) (i : Inst) → n < length s.insts.items → i ≡ slice_index_or s.insts.items n i → inst_view bytes t i ≡ inst_at bytes t s n
+pub inst_here : (bytes : List ℕ) (t : Trees) (s : Store) (n : ℕ) (i : Inst) → n < length s.insts.items → i ≡ slice_index_or s.insts.items n i → inst_view bytes t (table_of bytes t s) i ≡ inst_at bytes t s n
 inst_here bytes t s n i h is = let at : slice_get s.insts.items n ≡ Some i = slice_get-get_or s.insts.items n i h ∙ ap Some (sym is) in rw at refl
 
-pub inst_in : (m : Module) (s : Store) (n : ℕ) (i : Inst) → IsStoreIn m s → n < length s.insts.items → i ≡ slice_index_or s.insts.items n i → IsInstIn m i
-inst_in m s n i st h is = all_item (IsInstIn m) s.insts.items n i st.insts (slice_get-get_or s.insts.items n i h ∙ ap Some (sym is))
+pub inst_in : (m : Module) (s : Store) (n : ℕ) (i : Inst) → IsStoreIn m s → n < length s.insts.items → i ≡ slice_index_or s.insts.items n i → IsInstIn m (made_in s) i
+inst_in m s n i st h is = all_item (IsInstIn m (made_in s)) s.insts.items n i st.insts (slice_get-get_or s.insts.items n i h ∙ ap Some (sym is))

@@ -23,6 +23,8 @@ detail_count D.Bare = 1
 detail_count D.Local = 1
 detail_count D.Literal = 1
 detail_count D.Null = 0
+detail_count D.Chars = 1
+detail_count D.Splat = 1
 detail_count D.Inst = 2
 detail_count D.Entry = 2
 detail_count D.Nuw = 1
@@ -42,6 +44,12 @@ list_count L.BodyMore = 2
 list_count L.BodyEnd = 0
 list_count L.TypesMore = 2
 list_count L.TypesEnd = 0
+list_count L.InArray = 1
+list_count L.InStruct = 1
+list_count L.ConstsMore = 2
+list_count L.ConstsEnd = 0
+list_count L.NonePacked = 0
+list_count L.Braced = 2
 list_count L.EntriesEnd = 0
 list_count L.EntriesMore = 2
 
@@ -76,6 +84,8 @@ typed_count T.Scalable = 2
 typed_count T.Packed = 1
 typed_count T.Typed = 2
 typed_count T.Pair = 3
+typed_count T.InVector = 3
+typed_count T.InPacked = 2
 typed_count T.Phi = 3
 
 abbrev pub part_count : Kind → ℕ

@@ -18,7 +18,9 @@ use Rattle.ll_literals.specs.Chain.{◌>>=◌}
 use Rattle.ll_literals.specs.Names.{symbol_name}
 use Rattle.ll_literals.specs.Numbers.{number_of, up_to, width_of}
 use Rattle.ll_literals.specs.Literals.{const_value}
-use Rattle.ll_lines.specs.Lines.{Text, Said, Local, Const, Typed, Incoming, Inst, Phi, Row, Part, Label, Does, Param, Function, StructLine, File}
+use Rattle.ll_lines.specs.declared.lines.Brackets.{Brackets}
+use Rattle.ll_lines.specs.declared.lines.Brackets.TheVariants as B
+use Rattle.ll_lines.specs.Lines.{Text, SaidConst, Plain, Chars, Listed, Splat, SaidConsts, NoneSaid, ThenSaid, Said, Local, Const, Typed, Incoming, Inst, Phi, Row, Part, Label, Does, Param, Function, StructLine, File}
 use Rattle.ll_values.specs.declared.form.Kind.{Kind}
 use Rattle.ll_values.specs.declared.form.Kind.TheVariants as K
 use Rattle.ll_values.specs.declared.form.DetailKind.{DetailKind}
@@ -39,6 +41,12 @@ pub data Literal : Type 0 where
   ConstL : Text → Literal
   -- null
   NullL : Literal
+  -- c and a text between quotes, the token
+  CharsL : Text → Literal
+  -- elements between brackets, each said at the type that stands before it
+  ListedL : Brackets → SaidConsts → Literal
+  -- splat and the constant that each element is
+  SplatL : SaidConst → Literal
 
 -- an entry of a phi
 pub record Entry : Type 0 where
@@ -59,6 +67,10 @@ pub data Value : Type 0 where
   TypeV : TypeTree → Value
   TypesV : TypeTrees → Value
   LiteralV : Literal → Value
+  -- constants behind each other
+  ConstsV : SaidConsts → Value
+  -- a literal whose type stands before it, and the constants behind it
+  BracedV : Literal → SaidConsts → Value
   TypedV : Typed → Value
   -- an address space
   SpaceV : ℕ → Value
@@ -128,14 +140,35 @@ const_of τ t = option_map_or (λ (fill : Fill). Some (filled_const fill τ)) (f
 abbrev pub null_of : TypeTree → Option ConstTree
 null_of τ = if is_pointer (shape τ) then Some (FilledConst F.Zero τ) else None
 
--- what a literal says at a type: a local is a name still
+abbrev pub plain : ConstTree → Said
+plain c = Const (Plain c)
+
+-- what a literal says at a type: a local is a name still, and whether elements are those of the type is not asked here, since the
+-- structs are not known yet
 abbrev pub said : TypeTree → Literal → Option Said
 said τ (LocalL t) = Some (Local t)
-said τ (ConstL t) = option_map Const (const_of τ t)
-said τ NullL = option_map Const (null_of τ)
+said τ (ConstL t) = option_map plain (const_of τ t)
+said τ NullL = option_map plain (null_of τ)
+said τ (CharsL t) = Some (Const (Chars τ t))
+said τ (ListedL brackets cs) = Some (Const (Listed τ brackets cs))
+said τ (SplatL c) = Some (Const (Splat τ c))
 
 abbrev pub typed : TypeTree → Literal → Option Typed
 typed τ ℓ = said τ ℓ >>= λ s. Some (record { type = τ; said = s })
+
+-- ---- elements of constants: a local is none
+
+abbrev pub const_in : Said → Option SaidConst
+const_in (Local t) = None
+const_in (Const c) = Some c
+
+-- a constant before others
+abbrev pub const_before : Said → SaidConsts → Option SaidConsts
+const_before s cs = option_map (λ (c : SaidConst). ThenSaid c cs) (const_in s)
+
+-- elements between brackets, the first of which is a literal of that type
+abbrev pub listed_from : Brackets → TypeTree → Literal → SaidConsts → Option Literal
+listed_from brackets τ ℓ cs = said τ ℓ >>= λ s. option_map (ListedL brackets) (const_before s cs)
 
 -- entries at the type of their phi
 abbrev pub incoming : TypeTree → List Entry → Option (List Incoming)
@@ -174,6 +207,8 @@ abbrev pub detail_by : DetailKind → List Value → Option Value
 detail_by D.Local (TextV t ∷ []) = Some (LiteralV (LocalL t))
 detail_by D.Literal (TextV t ∷ []) = Some (LiteralV (ConstL t))
 detail_by D.Null [] = Some (LiteralV NullL)
+detail_by D.Chars (TextV t ∷ []) = Some (LiteralV (CharsL t))
+detail_by D.Splat (TypedV x ∷ []) = option_map (λ (c : SaidConst). LiteralV (SplatL c)) (const_in x.said)
 detail_by D.Nuw (FlagV nsw ∷ []) = Some (WrapsV (record { nuw = true; nsw = nsw }))
 detail_by D.Nsw [] = Some (WrapsV (record { nuw = false; nsw = true }))
 detail_by D.NoWraps [] = Some (WrapsV no_wraps)
@@ -198,6 +233,12 @@ list_by L.BodyEnd [] = Some (BodyV [])
 list_by L.BodyMore (PartV p ∷ BodyV ps ∷ []) = Some (BodyV (p ∷ ps))
 list_by L.TypesEnd [] = Some (TypesV NoTypes)
 list_by L.TypesMore (TypeV τ ∷ TypesV τs ∷ []) = Some (TypesV (ThenType τ τs))
+list_by L.ConstsEnd [] = Some (ConstsV NoneSaid)
+list_by L.ConstsMore (TypedV x ∷ ConstsV cs ∷ []) = option_map ConstsV (const_before x.said cs)
+list_by L.InArray (ConstsV cs ∷ []) = Some (LiteralV (ListedL B.Array cs))
+list_by L.InStruct (ConstsV cs ∷ []) = Some (LiteralV (ListedL (B.Struct Unpacked) cs))
+list_by L.NonePacked [] = Some (LiteralV (ListedL (B.Struct Packed) NoneSaid))
+list_by L.Braced (LiteralV ℓ ∷ ConstsV cs ∷ []) = Some (BracedV ℓ cs)
 list_by L.ParamsEnd [] = Some (ParamsV [])
 list_by L.ParamsMore (ParamV p ∷ ParamsV ps ∷ []) = Some (ParamsV (p ∷ ps))
 list_by L.Parameters (ParamsV ps ∷ NoneV ∷ NoneV ∷ []) = Some (ParamsV ps)
@@ -234,6 +275,8 @@ abbrev pub is_type : TypedKind → Bool
 is_type T.Typed = false
 is_type T.Pair = false
 is_type T.Phi = false
+is_type T.InVector = false
+is_type T.InPacked = false
 is_type T.Fields = false
 is_type T.PackedFields = false
 is_type _ = true
@@ -261,6 +304,8 @@ typed_by T.Fields (TypesV τs ∷ []) = option_map (λ (b : StructBody). FieldsV
 typed_by T.PackedFields (TypesV τs ∷ []) = option_map (λ (b : StructBody). FieldsV (Some b)) (body_of Packed τs)
 typed_by T.Typed (TypeV τ ∷ LiteralV ℓ ∷ []) = option_map TypedV (typed τ ℓ)
 typed_by T.Pair (TypeV τ ∷ LiteralV ℓ ∷ LiteralV r ∷ []) = typed τ ℓ >>= λ x. typed τ r >>= λ y. Some (PairV x y)
+typed_by T.InVector (TypeV τ ∷ LiteralV ℓ ∷ ConstsV cs ∷ []) = option_map LiteralV (listed_from B.Vector τ ℓ cs)
+typed_by T.InPacked (TypeV τ ∷ BracedV ℓ cs ∷ []) = option_map LiteralV (listed_from (B.Struct Packed) τ ℓ cs)
 typed_by T.Phi (TypeV τ ∷ EntryV e ∷ EntriesV es ∷ []) = incoming τ (e ∷ es) >>= λ xs. Some (InstV (Phi τ xs))
 typed_by _ _ = None
 

@@ -8,8 +8,9 @@ use Rattle.llvm_core.specs.Sound.{IsModule}
 use Rattle.llvm_core.specs.Data.{Trees, trees_of, type_at, types_at}
 use Rattle.llvm_core.specs.declared.numbers.LLVMType.{LLVMType}
 use Rattle.ll_lines.specs.declared.lines.Param as code_param
-use Rattle.ll_lines.specs.Lines.{Inst, Phi, Part, Label, Does, Param, StructLine, Function}
-use Rattle.ll_lines.specs.Views.{text_of, typed_view, inst_view, param_view, IsTypeIn, IsSaidIn, IsTypedIn, IsInstIn}
+use Rattle.ll_lines.specs.declared.lines.SaidConst as code_const
+use Rattle.ll_lines.specs.Lines.{SaidConst, SaidConsts, ThenSaid, Inst, Phi, Part, Label, Does, Param, StructLine, Function}
+use Rattle.ll_lines.specs.Views.{text_of, saids_of, const_view, table_view, typed_view, inst_view, param_view, IsTypeIn, IsConstIn, IsTableIn, IsSaidIn, IsTypedIn, IsInstIn}
 use Rattle.ll_values.specs.declared.store.Store.{Store}
 use Rattle.ll_values.specs.declared.value.Literal as code_literal
 use Rattle.ll_values.specs.declared.value.Literal.TheVariants as L
@@ -23,28 +24,40 @@ use Rattle.ll_values.specs.declared.value.Structure.{Structure}
 use Rattle.ll_values.specs.declared.value.Value as code_value
 use Rattle.ll_values.specs.declared.value.Value.TheVariants as V
 use Rattle.ll_values.specs.Lists.{list_at}
-use Rattle.ll_values.specs.Values.{Literal, LocalL, ConstL, NullL, Entry, Head, Value, NoneV, TextV, FlagV, WrapsV, TypeV, TypesV, LiteralV, TypedV, SpaceV, PairV, EntryV, EntriesV, InstV, PartV, BodyV, ParamV, ParamsV, HeadV, SourceV, FunctionV, FieldsV, StructV, FileV, are_fields}
+use Rattle.ll_values.specs.Values.{Literal, LocalL, ConstL, NullL, CharsL, ListedL, SplatL, Entry, Head, Value, NoneV, TextV, FlagV, WrapsV, TypeV, TypesV, LiteralV, ConstsV, BracedV, TypedV, SpaceV, PairV, EntryV, EntriesV, InstV, PartV, BodyV, ParamV, ParamsV, HeadV, SourceV, FunctionV, FieldsV, StructV, FileV, are_fields}
 
 -- ---- what is said
 
-module _ (bytes : List ℕ) where
-  abbrev pub literal_view : code_literal.Literal → Literal
-  literal_view (L.Local n) = LocalL (text_of bytes n)
-  literal_view (L.Const n) = ConstL (text_of bytes n)
-  literal_view L.Null = NullL
-
-  abbrev pub entry_view : code_entry.Entry → Entry
-  entry_view e = record { literal = literal_view e.literal; block = text_of bytes e.block }
+-- what the constants of the table say
+abbrev pub table_of : List ℕ → Trees → Store → List SaidConst
+table_of bytes t s = table_view bytes t s.table.items
 
 abbrev pub fields_view : Trees → Store → Fields → StructBody
 fields_view t s b = record { fields = types_at t.types (list_at s.types b.types); layout = b.layout }
 
 module _ (bytes : List ℕ) (t : Trees) (s : Store) where
+  abbrev pub said_const : code_const.SaidConst → SaidConst
+  said_const c = const_view bytes t (table_of bytes t s) c
+
+  abbrev pub consts_at : ℕ → SaidConsts
+  consts_at n = saids_of (map said_const (list_at s.consts n))
+
+  abbrev pub literal_view : code_literal.Literal → Literal
+  literal_view (L.Local n) = LocalL (text_of bytes n)
+  literal_view (L.Const n) = ConstL (text_of bytes n)
+  literal_view L.Null = NullL
+  literal_view (L.Chars n) = CharsL (text_of bytes n)
+  literal_view (L.Listed brackets n) = ListedL brackets (consts_at n)
+  literal_view (L.Splat c) = SplatL (said_const c)
+
+  abbrev pub entry_view : code_entry.Entry → Entry
+  entry_view e = record { literal = literal_view e.literal; block = text_of bytes e.block }
+
   abbrev pub entries_at : ℕ → List Entry
-  entries_at n = map (entry_view bytes) (list_at s.entries n)
+  entries_at n = map entry_view (list_at s.entries n)
 
   abbrev pub inst_at : ℕ → Inst
-  inst_at n = option_map_or (inst_view bytes t) (slice_get s.insts.items n) (Phi VoidType [])
+  inst_at n = option_map_or (inst_view bytes t (table_of bytes t s)) (slice_get s.insts.items n) (Phi VoidType [])
 
   abbrev pub part_view : Piece → Part
   part_view (P.Label n) = Label (text_of bytes n)
@@ -81,11 +94,13 @@ module _ (bytes : List ℕ) (t : Trees) (s : Store) where
   value_view (V.Wraps flags) = WrapsV flags
   value_view (V.Type ty) = TypeV (type_at t.types ty)
   value_view (V.Types n) = TypesV (types_in n)
-  value_view (V.Literal l) = LiteralV (literal_view bytes l)
-  value_view (V.Typed x) = TypedV (typed_view bytes t x)
+  value_view (V.Literal l) = LiteralV (literal_view l)
+  value_view (V.Consts n) = ConstsV (consts_at n)
+  value_view (V.Braced l n) = BracedV (literal_view l) (consts_at n)
+  value_view (V.Typed x) = TypedV (typed_view bytes t (table_of bytes t s) x)
   value_view (V.Space n) = SpaceV n
-  value_view (V.Pair ty a b) = PairV (typed_view bytes t (record { ty = ty; said = a })) (typed_view bytes t (record { ty = ty; said = b }))
-  value_view (V.Entry e) = EntryV (entry_view bytes e)
+  value_view (V.Pair ty a b) = PairV (typed_view bytes t (table_of bytes t s) (record { ty = ty; said = a })) (typed_view bytes t (table_of bytes t s) (record { ty = ty; said = b }))
+  value_view (V.Entry e) = EntryV (entry_view e)
   value_view (V.Entries n) = EntriesV (entries_at n)
   value_view (V.Inst n) = InstV (inst_at n)
   value_view (V.Part p) = PartV (part_view p)
@@ -101,7 +116,10 @@ module _ (bytes : List ℕ) (t : Trees) (s : Store) where
 
   -- an item before a list, where they are still to be kept
   abbrev pub entries_from : code_entry.Entry → ℕ → Value
-  entries_from e n = EntriesV (entry_view bytes e ∷ entries_at n)
+  entries_from e n = EntriesV (entry_view e ∷ entries_at n)
+
+  abbrev pub consts_from : code_const.SaidConst → ℕ → Value
+  consts_from c n = ConstsV (ThenSaid (said_const c) (consts_at n))
 
   abbrev pub body_from : Piece → ℕ → Value
   body_from p n = BodyV (part_view p ∷ body_at n)
@@ -126,7 +144,22 @@ pub record AreFieldsOf (m : Module) (lists : List (List LLVMType)) (b : Fields) 
   pub types : b.types ≤ length lists
   pub fit : are_fields (types_at (trees_of m).types (list_at lists b.types)) ≡ true
 
+-- so many constants the table has
+abbrev pub made_in : Store → ℕ
+made_in s = length s.table.items
+
 module _ (m : Module) (s : Store) where
+  abbrev pub IsLiteralIn : code_literal.Literal → Type 0
+  IsLiteralIn (L.Local n) = Unit {0}
+  IsLiteralIn (L.Const n) = Unit {0}
+  IsLiteralIn L.Null = Unit {0}
+  IsLiteralIn (L.Chars n) = Unit {0}
+  IsLiteralIn (L.Listed brackets n) = n ≤ length s.consts
+  IsLiteralIn (L.Splat c) = IsConstIn m (made_in s) c
+
+  abbrev pub IsEntryIn : code_entry.Entry → Type 0
+  IsEntryIn e = IsLiteralIn e.literal
+
   abbrev pub IsPieceIn : Piece → Type 0
   IsPieceIn (P.Label n) = Unit {0}
   IsPieceIn (P.Does name i) = i < length s.insts.items
@@ -147,11 +180,13 @@ module _ (m : Module) (s : Store) where
   IsValueIn (V.Wraps flags) = Unit {0}
   IsValueIn (V.Type ty) = IsTypeIn m ty
   IsValueIn (V.Types n) = n ≤ length s.types
-  IsValueIn (V.Literal l) = Unit {0}
-  IsValueIn (V.Typed x) = IsTypedIn m x
+  IsValueIn (V.Literal l) = IsLiteralIn l
+  IsValueIn (V.Consts n) = n ≤ length s.consts
+  IsValueIn (V.Braced l n) = IsLiteralIn l × (n ≤ length s.consts)
+  IsValueIn (V.Typed x) = IsTypedIn m (made_in s) x
   IsValueIn (V.Space n) = Unit {0}
-  IsValueIn (V.Pair ty a b) = IsTypeIn m ty × IsSaidIn m a × IsSaidIn m b
-  IsValueIn (V.Entry e) = Unit {0}
+  IsValueIn (V.Pair ty a b) = IsTypeIn m ty × IsSaidIn m (made_in s) a × IsSaidIn m (made_in s) b
+  IsValueIn (V.Entry e) = IsEntryIn e
   IsValueIn (V.Entries n) = n ≤ length s.entries
   IsValueIn (V.Inst n) = n < length s.insts.items
   IsValueIn (V.Part p) = IsPieceIn p
@@ -168,7 +203,10 @@ module _ (m : Module) (s : Store) where
   -- what is kept names what is there
   pub record IsStoreIn : Type 0 where
     pub sound : IsModule m
-    pub insts : All (IsInstIn m) s.insts.items
+    pub table : IsTableIn m s.table.items
+    pub consts : All (All (IsConstIn m (made_in s))) s.consts
+    pub insts : All (IsInstIn m (made_in s)) s.insts.items
+    pub entries : All (All IsEntryIn) s.entries
     pub bodies : All (All IsPieceIn) s.bodies
     pub types : All (All (IsTypeIn m)) s.types
     pub params : All (All (λ (p : code_param.Param). IsTypeIn m p.ty)) s.params

@@ -8,7 +8,7 @@ ghost use Rattle.llvm_core.specs.Data.{trees_of};
 ghost use Rattle.ll_lines.specs.Views as lines;
 ghost use Rattle.ll_lines.specs.Views.{text_of, struct_view, function_view, file_view, IsTypeIn, IsPartIn, IsStructIn, IsFunctionIn, IsFileIn};
 ghost use Rattle.ll_values.specs.Lists.{list_at};
-ghost use Rattle.ll_values.specs.Views.{part_view, body_at, fields_view, structure_view, structs_at, definition_view, functions_at, AreFieldsOf, IsPieceIn, IsStructureIn, IsDefinitionIn, IsStoreIn};
+ghost use Rattle.ll_values.specs.Views.{table_of, made_in, part_view, body_at, fields_view, structure_view, structs_at, definition_view, functions_at, AreFieldsOf, IsPieceIn, IsStructureIn, IsDefinitionIn, IsStoreIn};
 
 use crate::store::Store;
 use crate::types::listed;
@@ -30,8 +30,8 @@ fn part(
 ) -> Result<Part, AllocError>
     requires store { IsStoreIn m.now store.now }
     requires there { IsPieceIn m.now store.now piece }
-    ensures part { IfOk result (λ p. lines.part_view bytes.now (trees_of m.now) p ≡ part_view bytes.now (trees_of m.now) store.now piece) }
-    ensures there { IfOk result (IsPartIn m.now) }
+    ensures part { IfOk result (λ p. lines.part_view bytes.now (trees_of m.now) (table_of bytes.now (trees_of m.now) store.now) p ≡ part_view bytes.now (trees_of m.now) store.now piece) }
+    ensures there { IfOk result (IsPartIn m.now (made_in store.now)) }
 {
     let _ = m;
     let _ = bytes;
@@ -55,8 +55,8 @@ fn body(
 ) -> Result<Vec<Part>, AllocError>
     requires store { IsStoreIn m.now store.now }
     requires list { list ≤ length store.now.bodies }
-    ensures parts { IfOk result (λ v. map (lines.part_view bytes.now (trees_of m.now)) v.items ≡ body_at bytes.now (trees_of m.now) store.now list) }
-    ensures there { IfOk result (λ v. All (IsPartIn m.now) v.items) }
+    ensures parts { IfOk result (λ v. map (lines.part_view bytes.now (trees_of m.now) (table_of bytes.now (trees_of m.now) store.now)) v.items ≡ body_at bytes.now (trees_of m.now) store.now list) }
+    ensures there { IfOk result (λ v. All (IsPartIn m.now (made_in store.now)) v.items) }
 {
     let mut found = Vec::with_capacity(alloc, store.bodies.count(list))?;
     let mut next = list;
@@ -95,8 +95,8 @@ fn function(
 ) -> Result<Function, AllocError>
     requires store { IsStoreIn m.now store.now }
     requires there { IsDefinitionIn m.now store.now definition }
-    ensures function { IfOk result (λ f. function_view bytes.now (trees_of m.now) f ≡ definition_view bytes.now (trees_of m.now) store.now definition) }
-    ensures there { IfOk result (IsFunctionIn m.now) }
+    ensures function { IfOk result (λ f. function_view bytes.now (trees_of m.now) (table_of bytes.now (trees_of m.now) store.now) f ≡ definition_view bytes.now (trees_of m.now) store.now definition) }
+    ensures there { IfOk result (IsFunctionIn m.now (made_in store.now)) }
 {
     let head = definition.head;
     let params = params(alloc, m, store, head.params)?;
@@ -120,8 +120,8 @@ fn functions(
 ) -> Result<Vec<Function>, AllocError>
     requires store { IsStoreIn m.now store.now }
     requires list { list ≤ length store.now.functions }
-    ensures functions { IfOk result (λ v. map (function_view bytes.now (trees_of m.now)) v.items ≡ functions_at bytes.now (trees_of m.now) store.now list) }
-    ensures there { IfOk result (λ v. All (IsFunctionIn m.now) v.items) }
+    ensures functions { IfOk result (λ v. map (function_view bytes.now (trees_of m.now) (table_of bytes.now (trees_of m.now) store.now)) v.items ≡ functions_at bytes.now (trees_of m.now) store.now list) }
+    ensures there { IfOk result (λ v. All (IsFunctionIn m.now (made_in store.now)) v.items) }
 {
     let mut found = Vec::with_capacity(alloc, store.functions.count(list))?;
     let mut next = list;
@@ -203,26 +203,28 @@ fn structs(
     Ok(found)
 }
 
-/// A file of that name of the module, and of these structs and functions.
+/// A file of that name of the module, and of these structs and functions, with the constants that they name.
 pub fn file(
     alloc: Global,
     m: &LLVMModule,
-    store: &Store,
+    store: Store,
     bytes: &[u8],
     source: Option<Name>,
     struct_list: u32,
     function_list: u32,
 ) -> Result<File, AllocError>
-    requires store { IsStoreIn m.now store.now }
-    requires struct_list { struct_list ≤ length store.now.structs }
-    requires function_list { function_list ≤ length store.now.functions }
-    ensures file { IfOk result (λ f. file_view bytes.now (trees_of m.now) f ≡ record { source = option_map (text_of bytes.now) source; structs = structs_at bytes.now (trees_of m.now) store.now struct_list; functions = functions_at bytes.now (trees_of m.now) store.now function_list }) }
+    requires store { IsStoreIn m.now store }
+    requires struct_list { struct_list ≤ length store.structs }
+    requires function_list { function_list ≤ length store.functions }
+    ensures file { IfOk result (λ f. file_view bytes.now (trees_of m.now) f ≡ record { source = option_map (text_of bytes.now) source; structs = structs_at bytes.now (trees_of m.now) store struct_list; functions = functions_at bytes.now (trees_of m.now) store function_list }) }
     ensures there { IfOk result (IsFileIn m.now) }
 {
-    let structs = structs(alloc, m, store, bytes, struct_list)?;
-    let functions = functions(alloc, m, store, bytes, function_list)?;
+    let structs = structs(alloc, m, &store, bytes, struct_list)?;
+    let functions = functions(alloc, m, &store, bytes, function_list)?;
+    let Store { table, .. } = store;
     Ok(File {
         source,
+        consts: table,
         structs,
         functions,
     })

@@ -17,6 +17,8 @@ pub enum DetailKind {
     Local,
     Literal,
     Null,
+    Chars,
+    Splat,
     Inst,
     Entry,
     Nuw,
@@ -39,6 +41,12 @@ pub enum ListKind {
     BodyEnd,
     TypesMore,
     TypesEnd,
+    InArray,
+    InStruct,
+    ConstsMore,
+    ConstsEnd,
+    NonePacked,
+    Braced,
     EntriesEnd,
     EntriesMore,
 }
@@ -79,6 +87,8 @@ pub enum TypedKind {
     Packed,
     Typed,
     Pair,
+    InVector,
+    InPacked,
     Phi,
 }
 
@@ -114,6 +124,8 @@ impl DetailKind {
             DetailKind::Local => 1,
             DetailKind::Literal => 1,
             DetailKind::Null => 0,
+            DetailKind::Chars => 1,
+            DetailKind::Splat => 1,
             DetailKind::Inst => 2,
             DetailKind::Entry => 2,
             DetailKind::Nuw => 1,
@@ -141,6 +153,12 @@ impl ListKind {
             ListKind::BodyEnd => 0,
             ListKind::TypesMore => 2,
             ListKind::TypesEnd => 0,
+            ListKind::InArray => 1,
+            ListKind::InStruct => 1,
+            ListKind::ConstsMore => 2,
+            ListKind::ConstsEnd => 0,
+            ListKind::NonePacked => 0,
+            ListKind::Braced => 2,
             ListKind::EntriesEnd => 0,
             ListKind::EntriesMore => 2,
         }
@@ -191,6 +209,8 @@ impl TypedKind {
             TypedKind::Packed => 1,
             TypedKind::Typed => 2,
             TypedKind::Pair => 3,
+            TypedKind::InVector => 3,
+            TypedKind::InPacked => 2,
             TypedKind::Phi => 3,
         }
     }
@@ -540,9 +560,12 @@ pub static KINDS: [Kind; 541] = [
     Kind::Typed(TypedKind::Named),
     // 275: solid = '{' types '}'
     Kind::Typed(TypedKind::Struct),
-    Kind::Outside,
-    Kind::Outside,
-    Kind::Outside,
+    // 276: flat = INTTYPE
+    Kind::Typed(TypedKind::Int),
+    // 277: flat = 'ptr' space
+    Kind::Typed(TypedKind::Pointer),
+    // 278: flat = FLAT
+    Kind::Typed(TypedKind::Flat),
     Kind::Outside,
     Kind::Outside,
     Kind::Outside,
@@ -570,36 +593,55 @@ pub static KINDS: [Kind; 541] = [
     Kind::Outside,
     Kind::Outside,
     Kind::Outside,
+    // 299: tconst = type const
+    Kind::Typed(TypedKind::Typed),
+    // 300: const = INT
+    Kind::Detail(DetailKind::Literal),
+    // 301: const = CONST
+    Kind::Detail(DetailKind::Literal),
+    // 302: const = 'null'
+    Kind::Detail(DetailKind::Null),
+    // 303: const = '[' tconsts ']'
+    Kind::List(ListKind::InArray),
+    // 304: const = '{' tconsts '}'
+    Kind::List(ListKind::InStruct),
+    // 305: const = '<' const_angle
+    Kind::Same,
+    // 306: const = CSTR
+    Kind::Detail(DetailKind::Chars),
+    // 307: const = 'splat' '(' tconst ')'
+    Kind::Detail(DetailKind::Splat),
     Kind::Outside,
     Kind::Outside,
     Kind::Outside,
     Kind::Outside,
     Kind::Outside,
+    // 313: const_angle = '{' const_brace
+    Kind::Same,
+    // 314: const_angle = flat const more_tconsts '>'
+    Kind::Typed(TypedKind::InVector),
+    Kind::Outside,
+    // 316: const_brace = '}' const_empty
+    Kind::Same,
+    // 317: const_brace = type const_braced
+    Kind::Typed(TypedKind::InPacked),
+    // 318: const_empty = '>'
+    Kind::List(ListKind::NonePacked),
+    Kind::Outside,
+    // 320: const_braced = const more_tconsts '}' '>'
+    Kind::List(ListKind::Braced),
     Kind::Outside,
     Kind::Outside,
     Kind::Outside,
     Kind::Outside,
-    Kind::Outside,
-    Kind::Outside,
-    Kind::Outside,
-    Kind::Outside,
-    Kind::Outside,
-    Kind::Outside,
-    Kind::Outside,
-    Kind::Outside,
-    Kind::Outside,
-    Kind::Outside,
-    Kind::Outside,
-    Kind::Outside,
-    Kind::Outside,
-    Kind::Outside,
-    Kind::Outside,
-    Kind::Outside,
-    Kind::Outside,
-    Kind::Outside,
-    Kind::Outside,
-    Kind::Outside,
-    Kind::Outside,
+    // 325: tconsts = tconst more_tconsts
+    Kind::List(ListKind::ConstsMore),
+    // 326: tconsts = nothing
+    Kind::List(ListKind::ConstsEnd),
+    // 327: more_tconsts = ',' tconst more_tconsts
+    Kind::List(ListKind::ConstsMore),
+    // 328: more_tconsts = nothing
+    Kind::List(ListKind::ConstsEnd),
     Kind::Outside,
     Kind::Outside,
     // 331: inst = simple attached
@@ -660,11 +702,16 @@ pub static KINDS: [Kind; 541] = [
     Kind::Detail(DetailKind::Literal),
     // 367: value = 'null'
     Kind::Detail(DetailKind::Null),
-    Kind::Outside,
-    Kind::Outside,
-    Kind::Outside,
-    Kind::Outside,
-    Kind::Outside,
+    // 368: value = '[' tconsts ']'
+    Kind::List(ListKind::InArray),
+    // 369: value = '{' tconsts '}'
+    Kind::List(ListKind::InStruct),
+    // 370: value = '<' const_angle
+    Kind::Same,
+    // 371: value = CSTR
+    Kind::Detail(DetailKind::Chars),
+    // 372: value = 'splat' '(' tconst ')'
+    Kind::Detail(DetailKind::Splat),
     Kind::Outside,
     Kind::Outside,
     Kind::Outside,

@@ -2,17 +2,17 @@
 
 ghost use Rattle.std.specs.Prelude.{◌≡◌, ◌≤◌, length, Err, None, IfOk, OnErr};
 ghost use Rattle.llvm_core.specs.Data.{trees_of};
-ghost use Rattle.ll_lines.specs.Views.{inst_view, IsTypeIn, IsInstIn};
+ghost use Rattle.ll_lines.specs.Views.{const_line_view, inst_view, IsTypeIn, IsConstIn, IsConstLineIn, IsInstIn};
 ghost use Rattle.ll_values.specs.declared.value.Value.TheVariants as V;
 ghost use Rattle.ll_values.specs.Values.{InstV};
-ghost use Rattle.ll_values.specs.Views.{entries_from, body_from, types_from, params_from, struct_from, file_from, IsStoreIn, IsPieceIn, IsStructureIn, IsDefinitionIn};
-ghost use Rattle.ll_values.specs.Growing.{Kept};
+ghost use Rattle.ll_values.specs.Views.{table_of, made_in, entries_from, consts_from, body_from, types_from, params_from, struct_from, file_from, IsStoreIn, IsEntryIn, IsPieceIn, IsStructureIn, IsDefinitionIn};
+ghost use Rattle.ll_values.specs.Growing.{Kept, KeptConst};
 
 use crate::planned::Planned;
 use crate::store::Store;
 use crate::value::{Definition, Entry, Piece, Structure};
 use crate::value_err::ValueErr;
-use ll_lines::lines::Param;
+use ll_lines::lines::{ConstLine, ConstPlace, Param, SaidConst};
 use llvm_core::module::LLVMModule;
 use llvm_core::numbers::LLVMType;
 
@@ -25,8 +25,8 @@ pub fn keep_inst(
     inst: Planned,
 ) -> Result<u32, ValueErr>
     requires store { IsStoreIn m.now store.old }
-    requires there { IsInstIn m.now inst }
-    ensures kept { IfOk result (λ n. Kept bytes.now m.now store.old store.new (InstV (inst_view bytes.now (trees_of m.now) inst)) (V.Inst n)) }
+    requires there { IsInstIn m.now (made_in store.old) inst }
+    ensures kept { IfOk result (λ n. Kept bytes.now m.now store.old store.new (InstV (inst_view bytes.now (trees_of m.now) (table_of bytes.now (trees_of m.now) store.old) inst)) (V.Inst n)) }
     ensures memory { OnErr result (result ≡ Err ValueErr.NoMemory) }
 {
     let _ = m;
@@ -49,6 +49,7 @@ pub fn keep_entries(
     rest: u32,
 ) -> Result<u32, ValueErr>
     requires store { IsStoreIn m.now store.old }
+    requires there { IsEntryIn m.now store.old first }
     requires rest { rest ≤ length store.old.entries }
     ensures kept { IfOk result (λ n. Kept bytes.now m.now store.old store.new (entries_from bytes.now (trees_of m.now) store.old first rest) (V.Entries n)) }
     ensures memory { OnErr result (result ≡ Err ValueErr.NoMemory) }
@@ -56,6 +57,48 @@ pub fn keep_entries(
     let _ = m;
     let _ = bytes;
     Ok(store.entries.put(first, rest)?)
+}
+
+/// The number of constants, the first of them before others.
+#[inline(always)]
+pub fn keep_consts(
+    m: &LLVMModule,
+    store: &mut Store,
+    bytes: &[u8],
+    first: SaidConst,
+    rest: u32,
+) -> Result<u32, ValueErr>
+    requires store { IsStoreIn m.now store.old }
+    requires there { IsConstIn m.now (made_in store.old) first }
+    requires rest { rest ≤ length store.old.consts }
+    ensures kept { IfOk result (λ n. Kept bytes.now m.now store.old store.new (consts_from bytes.now (trees_of m.now) store.old first rest) (V.Consts n)) }
+    ensures memory { OnErr result (result ≡ Err ValueErr.NoMemory) }
+{
+    let _ = m;
+    let _ = bytes;
+    Ok(store.consts.put(first, rest)?)
+}
+
+/// One more constant that is made of others.
+pub fn keep_const(
+    m: &LLVMModule,
+    store: &mut Store,
+    bytes: &[u8],
+    line: ConstLine,
+) -> Result<SaidConst, ValueErr>
+    requires store { IsStoreIn m.now store.old }
+    requires there { IsConstLineIn m.now (made_in store.old) line }
+    ensures kept { IfOk result (KeptConst bytes.now m.now store.old store.new (const_line_view bytes.now (trees_of m.now) (table_of bytes.now (trees_of m.now) store.old) line)) }
+    ensures memory { OnErr result (result ≡ Err ValueErr.NoMemory) }
+{
+    let _ = m;
+    let _ = bytes;
+    let n = store.table.len();
+    if n > u32::MAX as usize {
+        return Err(ValueErr::NoMemory);
+    }
+    store.table.push(line)?;
+    Ok(SaidConst::Made(ConstPlace(n as u32)))
 }
 
 /// The number of a body, its first part before others.

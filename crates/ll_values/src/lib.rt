@@ -2,11 +2,14 @@
 #![tactic(auto)]
 
 mod assemble;
+mod elements;
+mod files;
 mod fold;
 pub mod form;
 mod keep;
 mod listed;
 pub mod lists;
+mod made;
 mod plan;
 mod plan_row;
 mod planned;

@@ -1,6 +1,6 @@
 //! Lists, and what holds them: a line for each kind.
 
-ghost use Rattle.std.specs.Prelude.{◌≡◌, ℕ, List, [], ◌∷◌, map, take, None, Err, IfSome, OnOk, OnErr};
+ghost use Rattle.std.specs.Prelude.{◌≡◌, ℕ, List, [], ◌∷◌, map, None, Err, IfSome, OnOk};
 ghost use Rattle.llvm_core.specs.Data.{Trees};
 ghost use Rattle.ll_values.specs.declared.form.Kind.TheVariants as K;
 ghost use Rattle.ll_values.specs.declared.form.ListKind.TheVariants as L;
@@ -10,13 +10,17 @@ ghost use Rattle.ll_values.specs.Values.{list_by};
 ghost use Rattle.ll_values.specs.Views.{value_view};
 ghost use Rattle.ll_values.specs.Stack.{IsStanding, Puts, MakesNothing};
 
+use crate::elements::{put_braced, put_more};
+use crate::files::put_file;
 use crate::form::{Kind, ListKind};
-use crate::keep::{keep_body, keep_entries, keep_functions, keep_params, keep_structs, keep_types};
+use crate::keep::{keep_body, keep_entries, keep_params, keep_types};
 use crate::put::put;
 use crate::stack::Stack;
 use crate::store::Store;
-use crate::value::{Definition, Head, Structure, Value};
+use crate::value::{Definition, Head, Literal, Structure, Value};
 use crate::value_err::ValueErr;
+use kinds::types::StructLayout;
+use ll_lines::lines::Brackets;
 use llvm_core::module::LLVMModule;
 use std::alloc::Global;
 
@@ -60,32 +64,6 @@ fn definition_of(parts: &[Value]) -> Option<Definition>
     }
 }
 
-/// A file in place of a struct and of the rest, which has no name.
-#[rattlefmt::skip]
-fn put_struct(alloc: Global, m: &LLVMModule, store: &mut Store, bytes: &[u8], stack: &mut Stack, first: Structure, rest: u32, functions: u32) -> Result<(), ValueErr>
-    requires standing { IsStanding m.now store.old stack.old }
-    requires parts { take 2 stack.old ≡ V.Struct first ∷ V.File None rest functions ∷ [] }
-    ensures puts { OnOk result (Puts bytes.now m.now m.now store.old store.new (K.List L.FileMore) stack.old stack.new) }
-    ensures memory { OnErr result (result ≡ Err ValueErr.NoMemory) }
-{
-    let number = keep_structs(m, store, bytes, first, rest, functions)?;
-    stack.replace(alloc, 2, Value::File(None, number, functions))?;
-    Ok(())
-}
-
-/// A file in place of a function and of the rest, which has no name.
-#[rattlefmt::skip]
-fn put_function(alloc: Global, m: &LLVMModule, store: &mut Store, bytes: &[u8], stack: &mut Stack, first: Definition, structs: u32, rest: u32) -> Result<(), ValueErr>
-    requires standing { IsStanding m.now store.old stack.old }
-    requires parts { take 2 stack.old ≡ V.Function first ∷ V.File None structs rest ∷ [] }
-    ensures puts { OnOk result (Puts bytes.now m.now m.now store.old store.new (K.List L.FileMore) stack.old stack.new) }
-    ensures memory { OnErr result (result ≡ Err ValueErr.NoMemory) }
-{
-    let number = keep_functions(m, store, bytes, first, structs, rest)?;
-    stack.replace(alloc, 2, Value::File(None, structs, number))?;
-    Ok(())
-}
-
 /// Lists, and what holds them, each put in place of the parts that it is made of.
 #[rattlefmt::skip]
 pub fn put_list(alloc: Global, m: &LLVMModule, store: &mut Store, bytes: &[u8], kind: ListKind, stack: &mut Stack) -> Result<(), ValueErr>
@@ -121,6 +99,18 @@ pub fn put_list(alloc: Global, m: &LLVMModule, store: &mut Store, bytes: &[u8], 
             }
             _ => Err(ValueErr::NotYet),
         },
+        ListKind::ConstsEnd => put(alloc, m, store, bytes, Kind::List(ListKind::ConstsEnd), stack, Value::Consts(0)),
+        ListKind::ConstsMore => put_more(alloc, m, store, bytes, stack),
+        ListKind::InArray => match *stack.first(1) {
+            [Value::Consts(n)] => put(alloc, m, store, bytes, Kind::List(ListKind::InArray), stack, Value::Literal(Literal::Listed(Brackets::Array, n))),
+            _ => Err(ValueErr::NotYet),
+        },
+        ListKind::InStruct => match *stack.first(1) {
+            [Value::Consts(n)] => put(alloc, m, store, bytes, Kind::List(ListKind::InStruct), stack, Value::Literal(Literal::Listed(Brackets::Struct(StructLayout::Unpacked), n))),
+            _ => Err(ValueErr::NotYet),
+        },
+        ListKind::NonePacked => put(alloc, m, store, bytes, Kind::List(ListKind::NonePacked), stack, Value::Literal(Literal::Listed(Brackets::Struct(StructLayout::Packed), 0))),
+        ListKind::Braced => put_braced(alloc, m, store, bytes, stack),
         ListKind::ParamsEnd => put(alloc, m, store, bytes, Kind::List(ListKind::ParamsEnd), stack, Value::Params(0)),
         ListKind::ParamsMore => match *stack.first(2) {
             [Value::Param(first), Value::Params(rest)] => {
@@ -147,11 +137,6 @@ pub fn put_list(alloc: Global, m: &LLVMModule, store: &mut Store, bytes: &[u8], 
             _ => Err(ValueErr::NotYet),
         },
         ListKind::FileEnd => put(alloc, m, store, bytes, Kind::List(ListKind::FileEnd), stack, Value::File(None, 0, 0)),
-        ListKind::FileMore => match *stack.first(2) {
-            [Value::Source(name), Value::File(None, structs, functions)] => put(alloc, m, store, bytes, Kind::List(ListKind::FileMore), stack, Value::File(Some(name), structs, functions)),
-            [Value::Struct(first), Value::File(None, rest, functions)] => put_struct(alloc, m, store, bytes, stack, first, rest, functions),
-            [Value::Function(first), Value::File(None, structs, rest)] => put_function(alloc, m, store, bytes, stack, first, structs, rest),
-            _ => Err(ValueErr::NotYet),
-        },
+        ListKind::FileMore => put_file(alloc, m, store, bytes, stack),
     }
 }

@@ -12,7 +12,7 @@ use crate::value::{Entry, Literal, Piece, Value};
 use crate::value_err::ValueErr;
 use crate::words::space_of;
 use kinds::op::OverflowFlags;
-use ll_lines::lines::Param;
+use ll_lines::lines::{Param, Said, Typed};
 use llvm_core::module::LLVMModule;
 use std::alloc::Global;
 
@@ -27,6 +27,8 @@ pub fn put_detail(alloc: Global, m: &LLVMModule, store: &Store, bytes: &[u8], ki
         DetailKind::Local => match *stack.first(1) { [Value::Text(n)] => put(alloc, m, store, bytes, Kind::Detail(DetailKind::Local), stack, Value::Literal(Literal::Local(n))), _ => Err(ValueErr::NotYet) },
         DetailKind::Literal => match *stack.first(1) { [Value::Text(n)] => put(alloc, m, store, bytes, Kind::Detail(DetailKind::Literal), stack, Value::Literal(Literal::Const(n))), _ => Err(ValueErr::NotYet) },
         DetailKind::Null => put(alloc, m, store, bytes, Kind::Detail(DetailKind::Null), stack, Value::Literal(Literal::Null)),
+        DetailKind::Chars => match *stack.first(1) { [Value::Text(n)] => put(alloc, m, store, bytes, Kind::Detail(DetailKind::Chars), stack, Value::Literal(Literal::Chars(n))), _ => Err(ValueErr::NotYet) },
+        DetailKind::Splat => match *stack.first(1) { [Value::Typed(Typed { said: Said::Const(c), .. })] => put(alloc, m, store, bytes, Kind::Detail(DetailKind::Splat), stack, Value::Literal(Literal::Splat(c))), _ => Err(ValueErr::NotYet) },
         DetailKind::Nuw => match *stack.first(1) { [Value::Flag(nsw)] => put(alloc, m, store, bytes, Kind::Detail(DetailKind::Nuw), stack, Value::Wraps(OverflowFlags { nuw: true, nsw })), _ => Err(ValueErr::NotYet) },
         DetailKind::Nsw => put(alloc, m, store, bytes, Kind::Detail(DetailKind::Nsw), stack, Value::Wraps(OverflowFlags { nuw: false, nsw: true })),
         DetailKind::NoWraps => put(alloc, m, store, bytes, Kind::Detail(DetailKind::NoWraps), stack, Value::Wraps(OverflowFlags { nuw: false, nsw: false })),

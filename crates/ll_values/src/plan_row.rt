@@ -6,7 +6,7 @@ ghost use Rattle.llvm_core.specs.Data.{trees_of};
 ghost use Rattle.ll_lines.specs.Views.{inst_view, IsInstIn};
 ghost use Rattle.ll_values.specs.Values.{row_by, InstV};
 ghost use Rattle.ll_values.specs.Words.{no_wraps};
-ghost use Rattle.ll_values.specs.Views.{value_view, IsValueIn};
+ghost use Rattle.ll_values.specs.Views.{table_of, value_view, made_in, IsValueIn};
 
 use crate::form::RowKind;
 use crate::planned::Planned;
@@ -30,8 +30,8 @@ fn no_wraps() -> OverflowFlags
 #[rattlefmt::skip]
 pub fn plan_row(m: &LLVMModule, store: &Store, bytes: &[u8], kind: RowKind, parts: &[Value]) -> Option<Planned>
     requires parts { All (IsValueIn m.now store.now) parts.now }
-    ensures made { option_map (λ i. InstV (inst_view bytes.now (trees_of m.now) i)) result ≡ row_by kind (map (value_view bytes.now (trees_of m.now) store.now) parts.now) }
-    ensures there { IfSome result (IsInstIn m.now) }
+    ensures made { option_map (λ i. InstV (inst_view bytes.now (trees_of m.now) (table_of bytes.now (trees_of m.now) store.now) i)) result ≡ row_by kind (map (value_view bytes.now (trees_of m.now) store.now) parts.now) }
+    ensures there { IfSome result (IsInstIn m.now (made_in store.now)) }
 {
     match kind {
         RowKind::Sum => match *parts { [Value::Text(n), Value::Wraps(flags), Value::Pair(ty, a, b)] => Some(Planned::pair(binary_op(n.text(bytes), flags)?, ty, a, b)), _ => None },

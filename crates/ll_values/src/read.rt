@@ -84,7 +84,7 @@ pub fn read_file(
     let Some((source, structs, functions)) = file_of(values.as_slice()) else {
         return Err(ValueErr::NotYet);
     };
-    match file(alloc, m, &store, bytes, source, structs, functions) {
+    match file(alloc, m, store, bytes, source, structs, functions) {
         Ok(file) => Ok(file),
         Err(_) => Err(ValueErr::NoMemory),
     }

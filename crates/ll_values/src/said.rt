@@ -1,29 +1,33 @@
 //! Types and constants of the module, as a text says them.
 
-ghost use Rattle.std.specs.Prelude.{◌≡◌, ◌≤◌, Some, None, Err, IfOk, IfSome, OnOk, length, slice_get};
+ghost use Rattle.std.specs.Prelude.{◌≡◌, ◌≤◌, ℕ, List, Some, None, Err, IfOk, IfSome, OnOk, length, slice_get};
 ghost use Rattle.llvm_core.specs.declared.types.LLVMTypeKind.TheVariants as T;
 ghost use Rattle.std.specs.Option.{option_map};
 ghost use Rattle.llvm_core.specs.Consts.{HasConstParts, one_form};
 ghost use Rattle.llvm_core.specs.Parts.{IsTypeOver, HasFitParts};
 ghost use Rattle.llvm_core.specs.Sound.{IsModule};
 ghost use Rattle.llvm_core.specs.Data.{trees_of, type_at, type_tree, const_tree};
-ghost use Rattle.ll_lines.specs.Lines.{Text, Const};
-ghost use Rattle.ll_lines.specs.Views.{said_view, text_of, IsTypeIn, IsSaidIn};
-ghost use Rattle.ll_values.specs.Values.{said, const_of, int_const, null_of};
-ghost use Rattle.ll_values.specs.Views.{literal_view};
-ghost use Rattle.ll_values.specs.Growing.{Interns};
+ghost use Rattle.ll_lines.specs.Lines as lines;
+ghost use Rattle.ll_lines.specs.Lines.{Text};
+ghost use Rattle.ll_lines.specs.Views.{said_view, IsTypeIn, IsSaidIn};
+ghost use Rattle.ll_values.specs.Values.{said, plain, const_of, int_const, null_of};
+ghost use Rattle.ll_values.specs.Views.{literal_view, IsLiteralIn, IsStoreIn};
+ghost use Rattle.ll_values.specs.Growing.{Interns, Says};
 
+use crate::made::{said_line, said_list};
+use crate::store::Store;
 use crate::value::Literal;
 use crate::value_err::ValueErr;
 use crate::words::fill_of;
 use kinds::fill::Fill;
 use kinds::fitting::is_pointer;
-use ll_lines::lines::Said;
+use ll_lines::lines::{ConstLine, Said, SaidConst};
 use ll_literals::literals::const_value;
 use llvm_core::consts::LLVMConstKind;
 use llvm_core::module::{LLVMModule, shape_of};
 use llvm_core::numbers::LLVMType;
 use llvm_core::types::LLVMTypeKind;
+use std::alloc::Global;
 
 /// The number of a type, new or old.
 fn type_number(m: &mut LLVMModule, kind: LLVMTypeKind) -> Result<LLVMType, ValueErr>
@@ -132,31 +136,32 @@ fn said_const(m: &mut LLVMModule, kind: Option<LLVMConstKind>) -> Result<Said, V
     requires sound { IsModule m.old }
     requires parts { IfSome kind (HasConstParts m.old) }
     ensures interns { OnOk result (Interns m.old m.new) }
-    ensures there { IfOk result (IsSaidIn m.new) }
-    ensures said { IfOk result (λ x. (bytes : Text) → option_map (λ k. Const (const_tree (trees_of m.old).types (trees_of m.old).consts (one_form m.old k))) kind ≡ Some (said_view bytes (trees_of m.new) x)) }
+    ensures there { IfOk result (λ x. (made : ℕ) → IsSaidIn m.new made x) }
+    ensures said { IfOk result (λ x. (bytes : Text) (table : List lines.SaidConst) → option_map (λ k. plain (const_tree (trees_of m.old).types (trees_of m.old).consts (one_form m.old k))) kind ≡ Some (said_view bytes (trees_of m.new) table x)) }
     ensures not_yet { result ≡ Err ValueErr.NotYet → kind ≡ None }
 {
     let Some(kind) = kind else {
         return Err(ValueErr::NotYet);
     };
     let c = m.const_get(kind)?;
-    Ok(Said::Const(c))
+    Ok(Said::Const(SaidConst::Plain(c)))
 }
 
 /// What a literal says at a type.
 #[inline(always)]
 pub fn said(
+    alloc: Global,
     m: &mut LLVMModule,
+    store: &mut Store,
     bytes: &[u8],
     ty: LLVMType,
     literal: Literal,
 ) -> Result<Said, ValueErr>
-    requires sound { IsModule m.old }
+    requires store { IsStoreIn m.old store.old }
     requires there { IsTypeIn m.old ty }
-    ensures interns { OnOk result (Interns m.old m.new) }
-    ensures there { IfOk result (IsSaidIn m.new) }
-    ensures said { IfOk result (λ x. said (type_at (trees_of m.old).types ty) (literal_view bytes.now literal) ≡ Some (said_view bytes.now (trees_of m.new) x)) }
-    ensures not_yet { result ≡ Err ValueErr.NotYet → said (type_at (trees_of m.old).types ty) (literal_view bytes.now literal) ≡ None }
+    requires literal { IsLiteralIn m.old store.old literal }
+    ensures says { IfOk result (Says bytes.now m.old m.new store.old store.new (said (type_at (trees_of m.old).types ty) (literal_view bytes.now (trees_of m.old) store.old literal))) }
+    ensures not_yet { result ≡ Err ValueErr.NotYet → said (type_at (trees_of m.old).types ty) (literal_view bytes.now (trees_of m.old) store.old literal) ≡ None }
 {
     match literal {
         Literal::Local(name) => Ok(Said::Local(name)),
@@ -168,5 +173,8 @@ pub fn said(
             let kind = null_of(m, ty);
             said_const(m, kind)
         }
+        Literal::Chars(text) => said_line(m, store, bytes, ConstLine::Chars(ty, text)),
+        Literal::Listed(brackets, list) => said_list(alloc, m, store, bytes, ty, brackets, list),
+        Literal::Splat(c) => said_line(m, store, bytes, ConstLine::Splat(ty, c)),
     }
 }

@@ -8,10 +8,11 @@ ghost use Rattle.ll_values.specs.declared.form.Kind.TheVariants as K;
 ghost use Rattle.ll_values.specs.declared.form.TypedKind.TheVariants as T;
 ghost use Rattle.ll_values.specs.declared.value.Value.TheVariants as V;
 ghost use Rattle.ll_values.specs.Values.{incoming, is_type, is_body, typed_by, TypeV, FieldsV, LiteralV};
-ghost use Rattle.ll_values.specs.Views.{literal_view, value_view, entry_view, entries_at, fields_view, AreFieldsOf, IsValueIn, IsStoreIn};
-ghost use Rattle.ll_values.specs.Growing.{Interns, Makes};
+ghost use Rattle.ll_values.specs.Views.{table_of, literal_view, value_view, entry_view, entries_at, fields_view, made_in, AreFieldsOf, IsLiteralIn, IsEntryIn, IsValueIn, IsStoreIn};
+ghost use Rattle.ll_values.specs.Growing.{Interns, Keeps, Makes};
 ghost use Rattle.ll_values.specs.Stack.{IsStanding, Puts, MakesNothing};
 
+use crate::elements::{put_packed, put_vector};
 use crate::form::TypedKind;
 use crate::keep::keep_inst;
 use crate::planned::Planned;
@@ -56,7 +57,7 @@ fn plan_type(alloc: Global, m: &LLVMModule, store: &Store, bytes: &[u8], kind: T
         TypedKind::Struct => match *parts { [Value::Types(n)] => struct_kind(alloc, m, store, StructLayout::Unpacked, n), _ => Err(ValueErr::NotYet) },
         TypedKind::Packed => match *parts { [Value::Types(n)] => struct_kind(alloc, m, store, StructLayout::Packed, n), _ => Err(ValueErr::NotYet) },
         TypedKind::Named => match *parts { [Value::Text(n)] => named_kind(alloc, m, n.text(bytes)), _ => Err(ValueErr::NotYet) },
-        TypedKind::Fields | TypedKind::PackedFields | TypedKind::Typed | TypedKind::Pair | TypedKind::Phi => Err(ValueErr::NotYet),
+        TypedKind::Fields | TypedKind::PackedFields | TypedKind::Typed | TypedKind::Pair | TypedKind::Phi | TypedKind::InVector | TypedKind::InPacked => Err(ValueErr::NotYet),
     }
 }
 
@@ -117,42 +118,45 @@ fn make_fields(
 /// A literal at a type.
 #[inline(always)]
 fn make_one(
+    alloc: Global,
     m: &mut LLVMModule,
-    store: &Store,
+    store: &mut Store,
     bytes: &[u8],
     ty: LLVMType,
     literal: Literal,
 ) -> Result<Said, ValueErr>
-    requires store { IsStoreIn m.old store.now }
+    requires store { IsStoreIn m.old store.old }
     requires there { IsTypeIn m.old ty }
-    ensures made { IfOk result (λ x. Makes bytes.now m.old m.new store.now store.now (K.Typed T.Typed) (V.Type ty ∷ V.Literal literal ∷ []) (V.Typed (record { ty = ty; said = x }))) }
-    ensures not_yet { result ≡ Err ValueErr.NotYet → typed_by T.Typed (TypeV (type_at (trees_of m.old).types ty) ∷ LiteralV (literal_view bytes.now literal) ∷ []) ≡ None }
+    requires literal { IsLiteralIn m.old store.old literal }
+    ensures made { IfOk result (λ x. Makes bytes.now m.old m.new store.old store.new (K.Typed T.Typed) (V.Type ty ∷ V.Literal literal ∷ []) (V.Typed (record { ty = ty; said = x }))) }
+    ensures not_yet { result ≡ Err ValueErr.NotYet → typed_by T.Typed (TypeV (type_at (trees_of m.old).types ty) ∷ LiteralV (literal_view bytes.now (trees_of m.old) store.old literal) ∷ []) ≡ None }
 {
-    let _ = store;
-    said(m, bytes, ty, literal)
+    said(alloc, m, store, bytes, ty, literal)
 }
 
 /// Two literals at a type.
 #[inline(always)]
 fn make_pair(
+    alloc: Global,
     m: &mut LLVMModule,
-    store: &Store,
+    store: &mut Store,
     bytes: &[u8],
     ty: LLVMType,
     a: Literal,
     b: Literal,
 ) -> Result<(Said, Said), ValueErr>
-    requires store { IsStoreIn m.old store.now }
+    requires store { IsStoreIn m.old store.old }
     requires there { IsTypeIn m.old ty }
-    ensures made { IfOk result (λ p. Makes bytes.now m.old m.new store.now store.now (K.Typed T.Pair) (V.Type ty ∷ V.Literal a ∷ V.Literal b ∷ []) (V.Pair ty p.0 p.1)) }
-    ensures not_yet { result ≡ Err ValueErr.NotYet → typed_by T.Pair (TypeV (type_at (trees_of m.old).types ty) ∷ LiteralV (literal_view bytes.now a) ∷ LiteralV (literal_view bytes.now b) ∷ []) ≡ None }
+    requires a { IsLiteralIn m.old store.old a }
+    requires b { IsLiteralIn m.old store.old b }
+    ensures made { IfOk result (λ p. Makes bytes.now m.old m.new store.old store.new (K.Typed T.Pair) (V.Type ty ∷ V.Literal a ∷ V.Literal b ∷ []) (V.Pair ty p.0 p.1)) }
+    ensures not_yet { result ≡ Err ValueErr.NotYet → typed_by T.Pair (TypeV (type_at (trees_of m.old).types ty) ∷ LiteralV (literal_view bytes.now (trees_of m.old) store.old a) ∷ LiteralV (literal_view bytes.now (trees_of m.old) store.old b) ∷ []) ≡ None }
 {
-    let _ = store;
-    let x = match said(m, bytes, ty, a) {
+    let x = match said(alloc, m, store, bytes, ty, a) {
         Ok(x) => x,
         Err(e) => return Err(e),
     };
-    match said(m, bytes, ty, b) {
+    match said(alloc, m, store, bytes, ty, b) {
         Ok(y) => Ok((x, y)),
         Err(e) => Err(e),
     }
@@ -162,21 +166,24 @@ fn make_pair(
 fn entries(
     alloc: Global,
     m: &mut LLVMModule,
-    store: &Store,
+    store: &mut Store,
     bytes: &[u8],
     ty: LLVMType,
     first: Entry,
     rest: u32,
 ) -> Result<ShortList<Incoming>, ValueErr>
-    requires store { IsStoreIn m.old store.now }
+    requires store { IsStoreIn m.old store.old }
     requires there { IsTypeIn m.old ty }
-    requires rest { rest ≤ length store.now.entries }
+    requires first { IsEntryIn m.old store.old first }
+    requires rest { rest ≤ length store.old.entries }
     ensures interns { OnOk result (Interns m.old m.new) }
-    ensures there { IfOk result (λ es. All (λ e. IsSaidIn m.new e.said) es) }
-    ensures entries { IfOk result (λ es. incoming (type_at (trees_of m.old).types ty) (entry_view bytes.now first ∷ entries_at bytes.now (trees_of m.old) store.now rest) ≡ Some (map (incoming_view bytes.now (trees_of m.new)) es)) }
-    ensures not_yet { result ≡ Err ValueErr.NotYet → incoming (type_at (trees_of m.old).types ty) (entry_view bytes.now first ∷ entries_at bytes.now (trees_of m.old) store.now rest) ≡ None }
+    ensures store { OnOk result (IsStoreIn m.new store.new) }
+    ensures keeps { OnOk result (Keeps store.old store.new) }
+    ensures there { IfOk result (λ es. All (λ e. IsSaidIn m.new (made_in store.new) e.said) es) }
+    ensures entries { IfOk result (λ es. incoming (type_at (trees_of m.old).types ty) (entry_view bytes.now (trees_of m.old) store.old first ∷ entries_at bytes.now (trees_of m.old) store.old rest) ≡ Some (map (incoming_view bytes.now (trees_of m.new) (table_of bytes.now (trees_of m.new) store.new)) es)) }
+    ensures not_yet { result ≡ Err ValueErr.NotYet → incoming (type_at (trees_of m.old).types ty) (entry_view bytes.now (trees_of m.old) store.old first ∷ entries_at bytes.now (trees_of m.old) store.old rest) ≡ None }
 {
-    let said_first = match said(m, bytes, ty, first.literal) {
+    let said_first = match said(alloc, m, store, bytes, ty, first.literal) {
         Ok(said) => said,
         Err(e) => return Err(e),
     };
@@ -186,7 +193,7 @@ fn entries(
     });
     let mut next = rest;
     while let Some((entry, behind)) = store.entries.first(next) {
-        let said = match said(m, bytes, ty, entry.literal) {
+        let said = match said(alloc, m, store, bytes, ty, entry.literal) {
             Ok(said) => said,
             Err(e) => return Err(e),
         };
@@ -210,6 +217,7 @@ fn make_phi(
 ) -> Result<u32, ValueErr>
     requires store { IsStoreIn m.old store.old }
     requires there { IsTypeIn m.old ty }
+    requires entry { IsEntryIn m.old store.old entry }
     requires rest { rest ≤ length store.old.entries }
     ensures made { IfOk result (λ n. Makes bytes.now m.old m.new store.old store.new (K.Typed T.Phi) (V.Type ty ∷ V.Entry entry ∷ V.Entries rest ∷ []) (V.Inst n)) }
     ensures not_yet { result ≡ Err ValueErr.NotYet → typed_by T.Phi (map (value_view bytes.now (trees_of m.old) store.old) (V.Type ty ∷ V.Entry entry ∷ V.Entries rest ∷ [])) ≡ None }
@@ -240,18 +248,20 @@ pub fn put_typed(alloc: Global, m: &mut LLVMModule, store: &mut Store, bytes: &[
         }
         TypedKind::Typed => match *stack.first(2) {
             [Value::Type(ty), Value::Literal(a)] => {
-                let said = make_one(m, store, bytes, ty, a)?;
+                let said = make_one(alloc, m, store, bytes, ty, a)?;
                 stack.replace(alloc, 2, Value::Typed(Typed { ty, said }))?;
             }
             _ => return Err(ValueErr::NotYet),
         },
         TypedKind::Pair => match *stack.first(3) {
             [Value::Type(ty), Value::Literal(a), Value::Literal(b)] => {
-                let (x, y) = make_pair(m, store, bytes, ty, a, b)?;
+                let (x, y) = make_pair(alloc, m, store, bytes, ty, a, b)?;
                 stack.replace(alloc, 3, Value::Pair(ty, x, y))?;
             }
             _ => return Err(ValueErr::NotYet),
         },
+        TypedKind::InVector => put_vector(alloc, m, store, bytes, stack)?,
+        TypedKind::InPacked => put_packed(alloc, m, store, bytes, stack)?,
         TypedKind::Phi => match *stack.first(3) {
             [Value::Type(ty), Value::Entry(entry), Value::Entries(rest)] => {
                 let n = make_phi(alloc, m, store, bytes, ty, entry, rest)?;

@@ -2,7 +2,7 @@
 
 use kinds::op::OverflowFlags;
 use kinds::types::StructLayout;
-use ll_lines::lines::{Param, Said, Typed};
+use ll_lines::lines::{Brackets, Param, Said, SaidConst, Typed};
 use ll_lines::names::Name;
 use llvm_core::numbers::LLVMType;
 
@@ -15,6 +15,12 @@ pub enum Literal {
     Const(Name),
     /// `null`.
     Null,
+    /// `c` and a text between quotes, the token.
+    Chars(Name),
+    /// Elements between brackets, by their number.
+    Listed(Brackets, u32),
+    /// `splat` and the constant that each element is.
+    Splat(SaidConst),
 }
 
 /// An entry of a phi.
@@ -71,6 +77,10 @@ pub enum Value {
     Type(LLVMType),
     Types(u32),
     Literal(Literal),
+    /// Constants behind each other.
+    Consts(u32),
+    /// A literal whose type stands before it, and the constants behind it.
+    Braced(Literal, u32),
     Typed(Typed),
     /// An address space.
     Space(u32),

@@ -6,6 +6,7 @@ use Rattle.std.specs.Str.{is_utf8}
 use Rattle.std.proofs.lemmas.List.Elements.{recursion_from_All}
 use Rattle.kinds.specs.Types.{TypeTree, TypeTrees, NoTypes, ThenType, types_list, count_types, result_of}
 use Rattle.kinds.specs.Held.{IsFirstClass, IsReturned}
+use Rattle.kinds.specs.Structs.{Struct, IsFormStruct}
 use Rattle.llvm_core.specs.Checked.{ends_in_only}
 use Rattle.llvm_core.specs.Data.{Placed, Block, Function, ModuleData, nth_type, param_type}
 use Rattle.llvm_core.specs.Form.{is_last, IsFormPlaced, IsFormBlock}
@@ -20,7 +21,7 @@ use Rattle.ll_tokens.specs.declared.kinds.Kind.TheVariants as K
 use Rattle.ll_literals.specs.Names.{printed_text}
 use Rattle.ll_written.specs.Writable.{IsSayableType, IsPart, IsParam, IsFunction, IsWritable}
 use Rattle.ll_written.proofs.NameForms.{string_form, global_form, local_form, label_form}
-use Rattle.ll_written.proofs.NamedForms.{IsGoodIn, AreGoodIn, all_front, all_back, result_good, param_good, good_functions, structs_form}
+use Rattle.ll_written.proofs.NamedForms.{IsGoodIn, AreGoodIn, all_front, all_back, result_good, param_good, forms, good_functions, structs_form}
 use Rattle.ll_written.proofs.LineForms.{line_form}
 
 -- ---- parameters
@@ -34,7 +35,7 @@ all_then : {A : Type 0} (Q : A → Type 0) (xs ys : List A) → AllByRecursion Q
 all_then Q [] ys h k = k
 all_then Q (x ∷ xs) ys h k = (h.0, all_then Q xs ys h.1 k)
 
-module _ (f : Function) (sayable : IsSayable f) (good : AreGoodIn f) where
+module _ (structs : List Struct) (formed : AllByRecursion IsFormStruct structs) (f : Function) (sayable : IsSayable f) (good : AreGoodIn structs f) where
   type_form : (i : ℕ) → i < length f.params → IsSayableType (param_type f.type i)
   type_form i within =
       let form = sayable.form in
@@ -47,44 +48,44 @@ module _ (f : Function) (sayable : IsSayable f) (good : AreGoodIn f) where
 
   -- ---- bodies
 
-  lines_form : (n : ℕ) (ps : List Placed) → AllByRecursion (IsFormPlaced f n) ps → AllByRecursion IsGoodIn ps → AllByRecursion IsPart (map (λ (p : Placed). L.Does (line_of f p)) ps)
+  lines_form : (n : ℕ) (ps : List Placed) → AllByRecursion (IsFormPlaced f n) ps → AllByRecursion (IsGoodIn structs) ps → AllByRecursion IsPart (map (λ (p : Placed). L.Does (line_of structs f p)) ps)
   lines_form n [] all named = tt
-  lines_form n (p ∷ ps) all named = (line_form f sayable good n p all.0 named.0, lines_form n ps all.1 named.1)
+  lines_form n (p ∷ ps) all named = (line_form structs formed f sayable good n p all.0 named.0, lines_form n ps all.1 named.1)
 
-  block_lines : (b : Block) → IsFormBlock f b → AllByRecursion IsGoodIn b.instructions → AllByRecursion IsPart (lines_of f b)
+  block_lines : (b : Block) → IsFormBlock f b → AllByRecursion (IsGoodIn structs) b.instructions → AllByRecursion IsPart (lines_of structs f b)
   block_lines b h named = lines_form b.number b.instructions (recursion_from_All (IsFormPlaced f b.number) b.instructions h.instructions) named
 
   -- the instructions of blocks
   abbrev inner : List Block → List Placed
   inner bs = flat_map (λ (b : Block). b.instructions) bs
 
-  blocks_form : (bs : List Block) → AllByRecursion (IsFormBlock f) bs → AllByRecursion IsGoodIn (inner bs) → AllByRecursion IsPart (flat_map (block_parts f) bs)
+  blocks_form : (bs : List Block) → AllByRecursion (IsFormBlock f) bs → AllByRecursion (IsGoodIn structs) (inner bs) → AllByRecursion IsPart (flat_map (block_parts structs f) bs)
   blocks_form [] all named = tt
   blocks_form (b ∷ bs) all named =
-      let lines = block_lines b all.0 (all_front IsGoodIn b.instructions (inner bs) named) in
-      (label_form f sayable b, all_then IsPart (lines_of f b) (flat_map (block_parts f) bs) lines (blocks_form bs all.1 (all_back IsGoodIn b.instructions (inner bs) named)))
+      let lines = block_lines b all.0 (all_front (IsGoodIn structs) b.instructions (inner bs) named) in
+      (label_form f sayable b, all_then IsPart (lines_of structs f b) (flat_map (block_parts structs f) bs) lines (blocks_form bs all.1 (all_back (IsGoodIn structs) b.instructions (inner bs) named)))
 
   entry_form : (b : Block) (name : Text) → AllByRecursion IsPart (entry_label f b name)
   entry_form b [] = tt
   entry_form b (c ∷ cs) = (label_form f sayable b, tt)
 
-  body_form : (bs : List Block) → AllByRecursion (IsFormBlock f) bs → AllByRecursion IsGoodIn (inner bs) → AllByRecursion IsPart (parts_of f bs)
+  body_form : (bs : List Block) → AllByRecursion (IsFormBlock f) bs → AllByRecursion (IsGoodIn structs) (inner bs) → AllByRecursion IsPart (parts_of structs f bs)
   body_form [] all named = tt
   body_form (b ∷ bs) all named =
-      let lines = block_lines b all.0 (all_front IsGoodIn b.instructions (inner bs) named) in
-      let blocks = blocks_form bs all.1 (all_back IsGoodIn b.instructions (inner bs) named) in
-      all_then IsPart (entry_label f b b.name) (lines_of f b ++ flat_map (block_parts f) bs) (entry_form b b.name) (all_then IsPart (lines_of f b) (flat_map (block_parts f) bs) lines blocks)
+      let lines = block_lines b all.0 (all_front (IsGoodIn structs) b.instructions (inner bs) named) in
+      let blocks = blocks_form bs all.1 (all_back (IsGoodIn structs) b.instructions (inner bs) named) in
+      all_then IsPart (entry_label f b b.name) (lines_of structs f b ++ flat_map (block_parts structs f) bs) (entry_form b b.name) (all_then IsPart (lines_of structs f b) (flat_map (block_parts structs f) bs) lines blocks)
 
-  some_by : (b : Block) (name : Text) (ps : List Placed) (rest : List Part) → ends_in_only is_last ps ≡ true → ¬ (entry_label f b name ++ (map (λ (p : Placed). L.Does (line_of f p)) ps ++ rest) ≡ [])
+  some_by : (b : Block) (name : Text) (ps : List Placed) (rest : List Part) → ends_in_only is_last ps ≡ true → ¬ (entry_label f b name ++ (map (λ (p : Placed). L.Does (line_of structs f p)) ps ++ rest) ≡ [])
   some_by b (c ∷ cs) ps rest ends = λ e. absurd cc
   some_by b [] (p ∷ ps) rest ends = λ e. absurd cc
   some_by b [] [] rest ends = λ e. absurd cc
 
-  some_form : (bs : List Block) → AllByRecursion (IsFormBlock f) bs → ¬ (bs ≡ []) → ¬ (parts_of f bs ≡ [])
+  some_form : (bs : List Block) → AllByRecursion (IsFormBlock f) bs → ¬ (bs ≡ []) → ¬ (parts_of structs f bs ≡ [])
   some_form [] all some = absurd (some refl)
-  some_form (b ∷ bs) all some = some_by b b.name b.instructions (flat_map (block_parts f) bs) all.0.ends
+  some_form (b ∷ bs) all some = some_by b b.name b.instructions (flat_map (block_parts structs f) bs) all.0.ends
 
-  function_form : IsFunction (function_of f)
+  function_form : IsFunction (function_of structs f)
   function_form =
       let form = sayable.form in
       let blocks = recursion_from_All (IsFormBlock f) f.blocks form.blocks in
@@ -96,9 +97,9 @@ module _ (f : Function) (sayable : IsSayable f) (good : AreGoodIn f) where
         some = some_form f.blocks blocks form.body;
       }
 
-functions_form : (fs : List Function) → AllByRecursion IsSayable fs → AllByRecursion AreGoodIn fs → AllByRecursion IsFunction (map function_of fs)
-functions_form [] all good = tt
-functions_form (f ∷ fs) all good = (function_form f all.0 good.0, functions_form fs all.1 good.1)
+functions_form : (structs : List Struct) → AllByRecursion IsFormStruct structs → (fs : List Function) → AllByRecursion IsSayable fs → AllByRecursion (AreGoodIn structs) fs → AllByRecursion IsFunction (map (function_of structs) fs)
+functions_form structs formed [] all good = tt
+functions_form structs formed (f ∷ fs) all good = (function_form structs formed f all.0 good.0, functions_form structs formed fs all.1 good.1)
 
 -- ---- files
 
@@ -111,5 +112,5 @@ pub file_form : (d : ModuleData) → IsSayableModule d → IsWritable (file_of d
 file_form d h = record {
   source = source_form d.name h.name;
   structs = structs_form d h;
-  functions = functions_form d.functions (recursion_from_All IsSayable d.functions h.functions) (good_functions d h);
+  functions = functions_form d.structs (forms d h) d.functions (recursion_from_All IsSayable d.functions h.functions) (good_functions d h);
 }

@@ -18,7 +18,8 @@ use Rattle.ll_tokens.specs.declared.kinds.Kind.TheVariants as T
 use Rattle.ll_literals.specs.Names.{global, local, printed_name, printed_text}
 use Rattle.ll_written.specs.Printing as P
 use Rattle.ll_written.specs.Written.{token, close, apart, written_type, next_part, written_body, written_param, next_param, written_params, written_function, next_function, written_struct_body, written_struct, next_struct, written_structs, written_source, written_file, written, end_of}
-use Rattle.ll_written.proofs.RowTexts.{joined, type_then}
+use Rattle.ll_written.proofs.RowTexts.{joined}
+use Rattle.ll_written.proofs.ConstTokens.{type_then}
 use Rattle.ll_written.proofs.TypeTokens.{text_both, type_written}
 use Rattle.ll_written.proofs.LineTexts.{line_text}
 
@@ -47,14 +48,14 @@ flat_both : {A B : Type 0} (f : A → List B) (xs ys : List A) → flat_map f (x
 flat_both f [] ys = refl
 flat_both {B = B} f (x ∷ xs) ys = ap (λ (zs : List B). f x ++ zs) (flat_both f xs ys) ∙ sym (append_assoc (f x) (flat_map f xs) (flat_map f ys))
 
-module _ (f : Function) where
+module _ (structs : List Struct) (f : Function) where
   -- ---- blocks
 
   abbrev Lined : ℕ → Placed → Type 0
   Lined n p = IsFormPlaced f n p
 
-  lines_turn : (n : ℕ) (ps : List Placed) → AllByRecursion (Lined n) ps → Turns (flat_map next_part (map (λ (p : Placed). L.Does (line_of f p)) ps)) (flat_map (P.placed_text f) ps)
-  lines_turn n ps all = turns_each (Lined n) next_part (λ (p : Placed). L.Does (line_of f p)) (P.placed_text f) (λ p h. line_text f n p h.instruction) ps all
+  lines_turn : (n : ℕ) (ps : List Placed) → AllByRecursion (Lined n) ps → Turns (flat_map next_part (map (λ (p : Placed). L.Does (line_of structs f p)) ps)) (flat_map (P.placed_text structs f) ps)
+  lines_turn n ps all = turns_each (Lined n) next_part (λ (p : Placed). L.Does (line_of structs f p)) (P.placed_text structs f) (λ p h. line_text structs f n p h.instruction) ps all
 
   label_turns : (b : Block) → Turns (token (codes "\n") T.Label (label_of f b) ∷ []) (P.label_text f b)
   label_turns b = simp (append_assoc, append-nil)
@@ -67,36 +68,36 @@ module _ (f : Function) where
     pub lines : AllByRecursion (Lined b.number) b.instructions
     pub some : b.instructions ≢ []
 
-  block_turns : (b : Block) → IsLined b → Turns (flat_map next_part (block_parts f b)) (P.block_text f b)
-  block_turns b h = turns_both (next_part (L.Label (label_of f b))) (flat_map next_part (lines_of f b)) (codes "\n" ++ P.label_text f b) (flat_map (P.placed_text f) b.instructions) (next_label_turns b) (lines_turn b.number b.instructions h.lines)
+  block_turns : (b : Block) → IsLined b → Turns (flat_map next_part (block_parts structs f b)) (P.block_text structs f b)
+  block_turns b h = turns_both (next_part (L.Label (label_of f b))) (flat_map next_part (lines_of structs f b)) (codes "\n" ++ P.label_text f b) (flat_map (P.placed_text structs f) b.instructions) (next_label_turns b) (lines_turn b.number b.instructions h.lines)
 
-  blocks_turn : (bs : List Block) → AllByRecursion IsLined bs → Turns (flat_map next_part (flat_map (block_parts f) bs)) (flat_map (P.block_text f) bs)
+  blocks_turn : (bs : List Block) → AllByRecursion IsLined bs → Turns (flat_map next_part (flat_map (block_parts structs f) bs)) (flat_map (P.block_text structs f) bs)
   blocks_turn [] all = refl
   blocks_turn (b ∷ bs) all =
-      ap (λ (xs : List Spaced). text_of xs ++ codes "\n") (flat_both next_part (block_parts f b) (flat_map (block_parts f) bs))
-      ∙ turns_both (flat_map next_part (block_parts f b)) (flat_map next_part (flat_map (block_parts f) bs)) (P.block_text f b) (flat_map (P.block_text f) bs) (block_turns b all.0) (blocks_turn bs all.1)
+      ap (λ (xs : List Spaced). text_of xs ++ codes "\n") (flat_both next_part (block_parts structs f b) (flat_map (block_parts structs f) bs))
+      ∙ turns_both (flat_map next_part (block_parts structs f b)) (flat_map next_part (flat_map (block_parts structs f) bs)) (P.block_text structs f b) (flat_map (P.block_text structs f) bs) (block_turns b all.0) (blocks_turn bs all.1)
 
   -- lines and the blocks behind them
   rest_turns : (b : Block) (bs : List Block) → IsLined b → AllByRecursion IsLined bs
-      → Turns (flat_map next_part (lines_of f b ++ flat_map (block_parts f) bs)) (flat_map (P.placed_text f) b.instructions ++ flat_map (P.block_text f) bs)
+      → Turns (flat_map next_part (lines_of structs f b ++ flat_map (block_parts structs f) bs)) (flat_map (P.placed_text structs f) b.instructions ++ flat_map (P.block_text structs f) bs)
   rest_turns b bs h all =
-      ap (λ (xs : List Spaced). text_of xs ++ codes "\n") (flat_both next_part (lines_of f b) (flat_map (block_parts f) bs))
-      ∙ turns_both (flat_map next_part (lines_of f b)) (flat_map next_part (flat_map (block_parts f) bs)) (flat_map (P.placed_text f) b.instructions) (flat_map (P.block_text f) bs) (lines_turn b.number b.instructions h.lines) (blocks_turn bs all)
+      ap (λ (xs : List Spaced). text_of xs ++ codes "\n") (flat_both next_part (lines_of structs f b) (flat_map (block_parts structs f) bs))
+      ∙ turns_both (flat_map next_part (lines_of structs f b)) (flat_map next_part (flat_map (block_parts structs f) bs)) (flat_map (P.placed_text structs f) b.instructions) (flat_map (P.block_text structs f) bs) (lines_turn b.number b.instructions h.lines) (blocks_turn bs all)
 
   -- where a line stands first, it stands as it does behind others
-  begins_with_line : (ps : List Placed) (qs : List Part) → ps ≢ [] → written_body (map (λ (p : Placed). L.Does (line_of f p)) ps ++ qs) ≡ flat_map next_part (map (λ (p : Placed). L.Does (line_of f p)) ps ++ qs)
+  begins_with_line : (ps : List Placed) (qs : List Part) → ps ≢ [] → written_body (map (λ (p : Placed). L.Does (line_of structs f p)) ps ++ qs) ≡ flat_map next_part (map (λ (p : Placed). L.Does (line_of structs f p)) ps ++ qs)
   begins_with_line [] qs some = absurd (some refl)
   begins_with_line (p ∷ ps) qs some = refl
 
   entry_turns : (b : Block) (bs : List Block) (name : Text) → IsLined b → AllByRecursion IsLined bs
-      → Turns (written_body (entry_label f b name ++ (lines_of f b ++ flat_map (block_parts f) bs))) (P.entry_label_text f b name ++ flat_map (P.placed_text f) b.instructions ++ flat_map (P.block_text f) bs)
+      → Turns (written_body (entry_label f b name ++ (lines_of structs f b ++ flat_map (block_parts structs f) bs))) (P.entry_label_text f b name ++ flat_map (P.placed_text structs f) b.instructions ++ flat_map (P.block_text structs f) bs)
   entry_turns b bs [] h all =
-      ap (λ (xs : List Spaced). text_of xs ++ codes "\n") (begins_with_line b.instructions (flat_map (block_parts f) bs) h.some) ∙ rest_turns b bs h all
+      ap (λ (xs : List Spaced). text_of xs ++ codes "\n") (begins_with_line b.instructions (flat_map (block_parts structs f) bs) h.some) ∙ rest_turns b bs h all
   entry_turns b bs (c ∷ cs) h all =
-      turns_both (token (codes "\n") T.Label (label_of f b) ∷ []) (flat_map next_part (lines_of f b ++ flat_map (block_parts f) bs)) (P.label_text f b) (flat_map (P.placed_text f) b.instructions ++ flat_map (P.block_text f) bs) (label_turns b) (rest_turns b bs h all)
+      turns_both (token (codes "\n") T.Label (label_of f b) ∷ []) (flat_map next_part (lines_of structs f b ++ flat_map (block_parts structs f) bs)) (P.label_text f b) (flat_map (P.placed_text structs f) b.instructions ++ flat_map (P.block_text structs f) bs) (label_turns b) (rest_turns b bs h all)
       ∙ simp append_assoc
 
-  body_turns : (bs : List Block) → AllByRecursion IsLined bs → Turns (written_body (parts_of f bs)) (P.blocks_text f bs)
+  body_turns : (bs : List Block) → AllByRecursion IsLined bs → Turns (written_body (parts_of structs f bs)) (P.blocks_text structs f bs)
   body_turns [] all = refl
   body_turns (b ∷ bs) all = entry_turns b bs b.name all.0 all.1
 
@@ -119,19 +120,19 @@ module _ (f : Function) where
 
   -- a function, behind the line end before it
   abbrev define_text : Text
-  define_text = codes "define " ++ P.type_text (result_of f.type) ++ codes " " ++ global (printed_name f.name) ++ codes "(" ++ P.params_text f 0 f.params ++ codes ") {\n" ++ P.blocks_text f f.blocks ++ codes "}\n"
+  define_text = codes "define " ++ P.type_text (result_of f.type) ++ codes " " ++ global (printed_name f.name) ++ codes "(" ++ P.params_text f 0 f.params ++ codes ") {\n" ++ P.blocks_text structs f f.blocks ++ codes "}\n"
 
   body_text : (xs : List Spaced) (t : Text) → Turns xs t → text_of (xs ++ (token (codes "\n") T.CloseBrace (codes "}") ∷ [])) ++ codes "\n" ≡ codes "\n" ++ (t ++ codes "}\n")
   body_text xs t e = turns_both xs (token (codes "\n") T.CloseBrace (codes "}") ∷ []) t (codes "}\n") e refl
 
-  function_at : (b : Text) → AllByRecursion IsLined f.blocks → text_of (written_function b (function_of f)) ++ codes "\n" ≡ b ++ define_text
+  function_at : (b : Text) → AllByRecursion IsLined f.blocks → text_of (written_function b (function_of structs f)) ++ codes "\n" ≡ b ++ define_text
   function_at b all =
-      let body = written_body (parts_of f f.blocks) ++ (token (codes "\n") T.CloseBrace (codes "}") ∷ []) in
+      let body = written_body (parts_of structs f f.blocks) ++ (token (codes "\n") T.CloseBrace (codes "}") ∷ []) in
       let inner = close T.CloseParen (codes ")") ∷ apart T.OpenBrace (codes "{") ∷ body in
       let one : text_of (written_params (params_of f 0 f.params) ++ inner) ≡ P.params_text f 0 f.params ++ (codes ") {" ++ text_of body) = joined (written_params (params_of f 0 f.params)) inner (P.params_text f 0 f.params) (codes ") {" ++ text_of body) (params_text f.params) refl in
-      let two : text_of body ++ codes "\n" ≡ codes "\n" ++ (P.blocks_text f f.blocks ++ codes "}\n") = body_text (written_body (parts_of f f.blocks)) (P.blocks_text f f.blocks) (body_turns f.blocks all) in
+      let two : text_of body ++ codes "\n" ≡ codes "\n" ++ (P.blocks_text structs f f.blocks ++ codes "}\n") = body_text (written_body (parts_of structs f f.blocks)) (P.blocks_text structs f f.blocks) (body_turns f.blocks all) in
       let front = b ++ codes "define" ++ (codes " " ++ P.type_text (result_of f.type)) ++ (codes " " ++ global (printed_name f.name)) ++ codes "(" in
-      let start : text_of (written_function b (function_of f)) ≡ front ++ text_of (written_params (params_of f 0 f.params) ++ inner) =
+      let start : text_of (written_function b (function_of structs f)) ≡ front ++ text_of (written_params (params_of f 0 f.params) ++ inner) =
       ap (λ (t : Text). b ++ codes "define" ++ t) (type_then (codes " ") (result_of f.type) (apart T.Global (global (printed_name f.name)) ∷ close T.OpenParen (codes "(") ∷ (written_params (params_of f 0 f.params) ++ inner))) ∙ simp append_assoc in
       ap (λ (t : Text). t ++ codes "\n") start ∙ ap (λ (t : Text). front ++ t ++ codes "\n") one ∙ regroup front (P.params_text f 0 f.params) (text_of body) ∙ ap (λ (t : Text). front ++ (P.params_text f 0 f.params ++ (codes ") {" ++ t))) two ∙ simp append_assoc
     where
@@ -146,11 +147,11 @@ module _ (f : Function) where
   all_lined : IsFormFunction f → AllByRecursion IsLined f.blocks
   all_lined h = each_weaker (IsFormBlock f) IsLined lined f.blocks (recursion_from_All (IsFormBlock f) f.blocks h.blocks)
 
-function_turns : (f : Function) → IsSayable f → Turns (next_function (function_of f)) (P.function_text f)
-function_turns f h = function_at f (codes "\n\n") (all_lined f h.form)
+function_turns : (structs : List Struct) (f : Function) → IsSayable f → Turns (next_function (function_of structs f)) (P.function_text structs f)
+function_turns structs f h = function_at structs f (codes "\n\n") (all_lined structs f h.form)
 
-functions_turn : (fs : List Function) → AllByRecursion IsSayable fs → Turns (flat_map next_function (map function_of fs)) (flat_map P.function_text fs)
-functions_turn fs all = turns_each IsSayable next_function function_of P.function_text function_turns fs all
+functions_turn : (structs : List Struct) (fs : List Function) → AllByRecursion IsSayable fs → Turns (flat_map next_function (map (function_of structs) fs)) (flat_map (P.function_text structs) fs)
+functions_turn structs fs all = turns_each IsSayable next_function (function_of structs) (P.function_text structs) (function_turns structs) fs all
 
 -- ---- structs
 
@@ -179,20 +180,22 @@ source_then t rest = simp append_assoc
 source_before : (t a b : Text) → codes "source_filename = " ++ (t ++ (codes "\n" ++ (a ++ b))) ≡ (codes "source_filename = " ++ t ++ codes "\n") ++ a ++ b
 source_before t a b = simp append_assoc
 
-file_by : (name : Text) (ss : List Struct) (fs : List Function) → AllByRecursion IsSayable fs
-    → text_of (written_file (source_of name) (map struct_of ss) (map function_of fs)) ++ end_of (written_file (source_of name) (map struct_of ss) (map function_of fs)) ≡ P.source_text name ++ P.structs_text ss ++ flat_map P.function_text fs
-file_by [] [] [] all = refl
-file_by [] [] (f ∷ fs) all = ends_both (written_function (codes "\n") (function_of f)) (flat_map next_function (map function_of fs)) (P.function_text f) (flat_map P.function_text fs) (function_at f (codes "\n") (all_lined f all.0.form)) (functions_turn fs all.1)
-file_by [] (s ∷ ss) fs all =
-    let first = ends_both (written_struct (codes "\n") (struct_of s)) (flat_map next_struct (map struct_of ss)) (codes "\n" ++ P.struct_text s) (flat_map P.struct_text ss) (struct_at (codes "\n") s) (next_structs_turn ss) in
-    ends_both (written_structs (codes "\n") (map struct_of (s ∷ ss))) (flat_map next_function (map function_of fs)) (P.structs_text (s ∷ ss)) (flat_map P.function_text fs) first (functions_turn fs all)
-file_by (b ∷ bs) ss fs all =
-    let structs = written_structs (codes "\n\n") (map struct_of ss) in
-    let functions = flat_map next_function (map function_of fs) in
-    let t = printed_text (b ∷ bs) in
-    let rest = turns_both structs functions (P.structs_text ss) (flat_map P.function_text fs) (structs_turn ss) (functions_turn fs all) in
-    source_then t (structs ++ functions) ∙ ap (λ (u : Text). codes "source_filename = " ++ (t ++ u)) rest ∙ source_before t (P.structs_text ss) (flat_map P.function_text fs)
+module _ (structs : List Struct) where
+  file_by : (name : Text) (ss : List Struct) (fs : List Function) → AllByRecursion IsSayable fs
+      → text_of (written_file (source_of name) (map struct_of ss) (map (function_of structs) fs)) ++ end_of (written_file (source_of name) (map struct_of ss) (map (function_of structs) fs)) ≡ P.source_text name ++ P.structs_text ss ++ flat_map (P.function_text structs) fs
+  file_by [] [] [] all = refl
+  file_by [] [] (f ∷ fs) all =
+      ends_both (written_function (codes "\n") (function_of structs f)) (flat_map next_function (map (function_of structs) fs)) (P.function_text structs f) (flat_map (P.function_text structs) fs) (function_at structs f (codes "\n") (all_lined structs f all.0.form)) (functions_turn structs fs all.1)
+  file_by [] (s ∷ ss) fs all =
+      let first = ends_both (written_struct (codes "\n") (struct_of s)) (flat_map next_struct (map struct_of ss)) (codes "\n" ++ P.struct_text s) (flat_map P.struct_text ss) (struct_at (codes "\n") s) (next_structs_turn ss) in
+      ends_both (written_structs (codes "\n") (map struct_of (s ∷ ss))) (flat_map next_function (map (function_of structs) fs)) (P.structs_text (s ∷ ss)) (flat_map (P.function_text structs) fs) first (functions_turn structs fs all)
+  file_by (b ∷ bs) ss fs all =
+      let front = written_structs (codes "\n\n") (map struct_of ss) in
+      let functions = flat_map next_function (map (function_of structs) fs) in
+      let t = printed_text (b ∷ bs) in
+      let rest = turns_both front functions (P.structs_text ss) (flat_map (P.function_text structs) fs) (structs_turn ss) (functions_turn structs fs all) in
+      source_then t (front ++ functions) ∙ ap (λ (u : Text). codes "source_filename = " ++ (t ++ u)) rest ∙ source_before t (P.structs_text ss) (flat_map (P.function_text structs) fs)
 
 -- the printed text is that of the tokens, and the end of the last line
 pub file_text : (d : ModuleData) → IsSayableModule d → text_of (written (file_of d)) ++ end_of (written (file_of d)) ≡ P.module_text d
-file_text d h = file_by d.name d.structs d.functions (recursion_from_All IsSayable d.functions h.functions)
+file_text d h = file_by d.structs d.name d.structs d.functions (recursion_from_All IsSayable d.functions h.functions)

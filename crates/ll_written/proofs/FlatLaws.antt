@@ -75,3 +75,6 @@ flat_says b τ h = P.type_flat b (type_text τ) (flat_class τ h) (flat_again τ
 
 pub flat_solid : (b : Text) (τ : TypeTree) → IsFlat τ → Reads N.solid (TypeV τ) (token b Word (type_text τ) ∷ [])
 flat_solid b τ h = P.solid_flat b (type_text τ) (flat_class τ h) (flat_again τ h)
+
+pub flat_lane : (b : Text) (τ : TypeTree) → IsFlat τ → Reads N.flat (TypeV τ) (token b Word (type_text τ) ∷ [])
+flat_lane b τ h = P.flat b (type_text τ) (flat_class τ h) (flat_again τ h)

@@ -11,6 +11,8 @@ pub mod FreeLaws
 pub mod PartForms
 pub mod NameForms
 pub mod TypeTokens
+pub mod ConstSays
+pub mod ConstTokens
 pub mod ValueSays
 pub mod RowForms
 pub mod RowSays
@@ -23,6 +25,7 @@ pub mod LineTexts
 pub mod FileTexts
 pub mod ReadLaws
 pub mod NamedForms
+pub mod ConstForms
 pub mod LineForms
 pub mod FileForms
 pub mod PrintLaws

@@ -1,5 +1,5 @@
 -- The names of functions and structs, and the names and numbers in a function, have the forms of their tokens.
-use Rattle.std.proofs.Common.{◌≡◌, ◌<◌, ◌^◌, ℕ, Bool, true, false, cond, not, nat_eq, List, [], ◌∷◌, ◌++◌, drop, Some, refl, arith}
+use Rattle.std.proofs.Common.{◌≡◌, ◌<◌, ◌^◌, ℕ, Bool, true, false, cond, not, nat_eq, List, [], ◌∷◌, ◌++◌, drop, Some, All, refl, arith}
 use Rattle.std.specs.Prelude.{decimal}
 use Rattle.std.specs.List.{flat_map, find, AllByRecursion}
 use Rattle.std.specs.Option.{option_map_or}
@@ -13,6 +13,7 @@ use Rattle.llvm_core.specs.Checked.{is_bad_name}
 use Rattle.kinds.specs.Names.{is_good_name, IsGoodOrNone}
 use Rattle.ll_lines.specs.Lines.{Text}
 use Rattle.ll_said.specs.Naming.{Unnamed, BlockOf, same_unnamed, unnamed_in, unnamed_number, local_text, result_name, block_name, block_ref}
+use Rattle.ll_said.specs.Said.{chars_text}
 use Rattle.ll_said.specs.Sayable.{IsSayable}
 use Rattle.ll_spacing.specs.Forms.{IsText, IsName, IsString, quoted, AreDigits}
 use Rattle.ll_tokens.specs.declared.kinds.Kind.TheVariants as K
@@ -26,9 +27,15 @@ use Rattle.ll_literals.proofs.SymbolLaws.{bare_parts}
 
 -- ---- names
 
--- a text between quotes has no quote in it
+-- bytes between quotes have no quote in them
+bytes_form : (bs : Text) → All (λ (b : ℕ). b < 256) bs → IsString (printed_text bs)
+bytes_form bs h = quoted (escaped bs) (escaped_open bs h)
+
 pub string_form : (t : Text) → is_utf8 t ≡ true → IsString (printed_text t)
-string_form t h = quoted (escaped t) (escaped_open t (utf8_bytes t h))
+string_form t h = bytes_form t (utf8_bytes t h)
+
+pub chars_form : (bs : List ℕ) → All (λ (b : ℕ). b < 2 ^ 8) bs → IsText K.CStr (chars_text bs)
+chars_form bs h = IsText.c_string (printed_text bs) (bytes_form bs h)
 
 bare_form : (n : Text) → is_bare n ≡ true → IsName n
 bare_form [] e = absurd cc

@@ -1,23 +1,24 @@
 -- Each name in a type in use is that of a struct of the module, and so one that a text can say.
-use Rattle.std.proofs.Common.{◌≡◌, ℕ, zero, suc, Bool, true, false, cond, nat_eq, List, [], ◌∷◌, ◌++◌, map, slice_get, Option, Some, None, refl, ap, ◌∙◌, subst, arith}
+use Rattle.std.proofs.Common.{◌≡◌, ℕ, zero, suc, Bool, true, false, cond, nat_eq, List, [], ◌∷◌, ◌++◌, map, slice_get, All, Option, Some, None, refl, ap, ◌∙◌, subst, arith}
 use Rattle.std.specs.Prelude.{IfSome}
 use Rattle.std.specs.List.{flat_map, find, AllByRecursion}
-use Rattle.std.specs.Option.{option_map, option_map_or}
+use Rattle.std.specs.Option.{option_map, option_map_or, option_and_then}
 use Rattle.std.specs.Str.{bytes_eq}
 use Rattle.std.proofs.lemmas.List.Elements.{recursion_from_All}
-use Rattle.std.proofs.lemmas.Option.{slice_get-map}
+use Rattle.std.proofs.lemmas.Option.{slice_get-map, same_Some}
 use Rattle.std.proofs.lemmas.Slice.Eq.{bytes_eq-Decides}
 use Rattle.support.specs.Interned.{IsDistinctList}
 use Rattle.kinds.specs.Types.{TypeTree, VoidType, IntType, PointerType, FloatingType, RefusedType, ArrayType, VectorType, StructType, NamedType, FunctionType, TypeTrees, NoTypes, ThenType, result_of, takes_of}
 use Rattle.kinds.specs.Structs.{StructBody, Struct, struct_in, each_type, each_field, nests, IsNested, IsFormStruct}
-use Rattle.kinds.specs.Held.{deepest, each_throughout}
+use Rattle.kinds.specs.Held.{deepest, each_throughout, IsFirstClass}
 use Rattle.kinds.specs.Fitting.{is_first_class}
 use Rattle.kinds.specs.Names.{is_good_name}
 use Rattle.kinds.proofs.TypeLaws.{and_left, and_right}
 use Rattle.kinds.proofs.HeldLaws.{first_class_by}
 use Rattle.kinds.proofs.NestLaws.{nested_shallow}
-use Rattle.llvm_core.specs.Data.{Operand, Constant, Parameter, Result, Placed, Function, ModuleData, nth_type, param_type, operand_type, placed_in}
-use Rattle.llvm_core.specs.Form.{constant_type, constant_types, types_in}
+use Rattle.llvm_core.specs.Data.{Operand, Constant, Parameter, Result, Placed, Function, ModuleData, nth_type, param_type, const_type, operand_type, placed_in}
+use Rattle.llvm_core.specs.Elements.{body_named}
+use Rattle.llvm_core.specs.Form.{constant_type, constant_types, operands_of, types_in, IsMadeOperand, HasMadeOperands}
 use Rattle.ll_lines.specs.Lines.{Text}
 use Rattle.ll_said.specs.Said.{struct_of}
 use Rattle.ll_said.specs.Sayable.{IsSayableModule}
@@ -70,7 +71,7 @@ module _ (structs : List Struct) (all : AllByRecursion IsFormStruct structs) whe
         let b = each_good n ts (and_right (nests structs n t) (each_type (nests structs n) ts) h) in
         cc
 
-  nested_good : (t : TypeTree) → IsNested structs t → has_good_names t ≡ true
+  pub nested_good : (t : TypeTree) → IsNested structs t → has_good_names t ≡ true
   nested_good t h = names_good deepest t h
 
 -- ---- structs
@@ -92,22 +93,42 @@ struct_there (x ∷ xs) once (suc i) s at = by (bytes_eq x.name s.name) refl (st
     by false is others = others
 
 -- its fields nest as a literal struct of them
-struct_nested : (structs : List Struct) (n : ℕ) (s : Struct) (b : StructBody) → struct_in structs s.name ≡ Some s → s.body ≡ Some b → nests structs n (NamedType s.name) ≡ true → nests structs n (StructType b.layout b.fields) ≡ true
-struct_nested structs zero s b there is h = cc
-struct_nested structs (suc n) s b there is h =
+struct_nested : (structs : List Struct) (n : ℕ) (name : Text) (s : Struct) (b : StructBody) → struct_in structs name ≡ Some s → s.body ≡ Some b → nests structs n (NamedType name) ≡ true → nests structs n (StructType b.layout b.fields) ≡ true
+struct_nested structs zero name s b there is h = cc
+struct_nested structs (suc n) name s b there is h =
     let fields = subst (λ (o : Option Struct). option_map_or (each_field (nests structs n)) o false ≡ true) there h in
     subst (λ (o : Option StructBody). option_map_or (λ (x : StructBody). each_type (nests structs n) x.fields) o true ≡ true) is fields
 
+-- a struct that is found in a list of such of the form is one
+form_found : (name : Text) (s : Struct) (xs : List Struct) → AllByRecursion IsFormStruct xs → struct_in xs name ≡ Some s → IsFormStruct s
+form_found name s [] all e = absurd cc
+form_found name s (x ∷ xs) all e = by (bytes_eq x.name name) (form_found name s xs all.1) e
+  where
+    by : (b : Bool) → (struct_in xs name ≡ Some s → IsFormStruct s) → cond b (Some x) (struct_in xs name) ≡ Some s → IsFormStruct s
+    by true others e = subst IsFormStruct (same_Some x s e) all.0
+    by false others e = others e
+
 module _ (structs : List Struct) (all : AllByRecursion IsFormStruct structs) where
+  -- a literal struct of its fields is a type of a value, and nests as it does
+  fields_sound : (name : Text) (s : Struct) (b : StructBody) → struct_in structs name ≡ Some s → s.body ≡ Some b → IsFormStruct s → IsNested structs (NamedType name) → IsFirstClass (StructType b.layout b.fields) × IsNested structs (StructType b.layout b.fields)
+  fields_sound name s b there is h nested =
+      let deep = struct_nested structs deepest name s b there is nested in
+      let fields = subst (λ (o : Option StructBody). option_map_or (λ (x : StructBody). each_throughout is_first_class x.fields) o true ≡ true) is h.fields in
+      (first_class_by (StructType b.layout b.fields) fields (nested_shallow structs (StructType b.layout b.fields) deep), deep)
+
+  -- so it is of what stands in the struct of a name
+  pub body_sound : (name : Text) (b : StructBody) → body_named structs name ≡ Some b → IsNested structs (NamedType name) → IsFirstClass (StructType b.layout b.fields) × IsNested structs (StructType b.layout b.fields)
+  body_sound name b is nested = by (struct_in structs name) refl is
+    where
+      by : (o : Option Struct) → struct_in structs name ≡ o → option_and_then (λ (s : Struct). s.body) o ≡ Some b → IsFirstClass (StructType b.layout b.fields) × IsNested structs (StructType b.layout b.fields)
+      by None there is = absurd cc
+      by (Some s) there is = fields_sound name s b there is (form_found name s structs all there) nested
+
   body_form : (s : Struct) (o : Option StructBody) → s.body ≡ o → IsFormStruct s → struct_in structs s.name ≡ Some s → IsNested structs (NamedType s.name) → IfSome o IsBody
   body_form s None is h there nested = tt
   body_form s (Some b) is h there nested =
-      let deep = struct_nested structs deepest s b there is nested in
-      let fields = subst (λ (o : Option StructBody). option_map_or (λ (x : StructBody). each_throughout is_first_class x.fields) o true ≡ true) is h.fields in
-      record {
-        type = first_class_by (StructType b.layout b.fields) fields (nested_shallow structs (StructType b.layout b.fields) deep);
-        names = nested_good structs all (StructType b.layout b.fields) deep;
-      }
+      let k = fields_sound s.name s b there is h nested in
+      record { type = k.0; names = nested_good structs all (StructType b.layout b.fields) k.1 }
 
   structs_by : (xs : List Struct) → ((i : ℕ) (s : Struct) → slice_get xs i ≡ Some s → struct_in structs s.name ≡ Some s) → AllByRecursion IsFormStruct xs → AllByRecursion (IsNested structs) (map (λ (s : Struct). NamedType s.name) xs)
       → AllByRecursion IsStruct (map struct_of xs)
@@ -120,15 +141,17 @@ module _ (structs : List Struct) (all : AllByRecursion IsFormStruct structs) whe
 abbrev pub HasGoodNames : TypeTree → Type 0
 HasGoodNames t = has_good_names t ≡ true
 
--- the names in the types of an instruction's result and of the constants that it uses are good
-pub record IsGoodIn (p : Placed) : Type 0 where
+-- the names in the type of an instruction's result are good; the types of the constants that it uses nest in these structs, and the
+-- constants are made of what these types ask for
+pub record IsGoodIn (structs : List Struct) (p : Placed) : Type 0 where
   pub result : HasGoodNames p.type
-  pub constants : AllByRecursion HasGoodNames (constant_types p)
+  pub constants : AllByRecursion (IsNested structs) (constant_types p)
+  pub made : AllByRecursion (IsMadeOperand structs) (operands_of p.instruction)
 
--- the names in a function's types are good
-pub record AreGoodIn (f : Function) : Type 0 where
+-- the names in a function's types are good, and so are its instructions
+pub record AreGoodIn (structs : List Struct) (f : Function) : Type 0 where
   pub signature : HasGoodNames f.type
-  pub placed : AllByRecursion IsGoodIn (placed_in f)
+  pub placed : AllByRecursion (IsGoodIn structs) (placed_in f)
 
 pub result_good : (t : TypeTree) → has_good_names t ≡ true → has_good_names (result_of t) ≡ true
 result_good (FunctionType r ps v) h = and_left (has_good_names r) (have_good_names ps) h
@@ -146,9 +169,9 @@ nth_good (ThenType t ts) (suc i) h = nth_good ts i (and_right (has_good_names t)
 pub param_good : (t : TypeTree) (i : ℕ) → has_good_names t ≡ true → has_good_names (param_type t i) ≡ true
 param_good t i h = nth_good (takes_of t) i (takes_good t h)
 
-found_good : (q : Placed → Bool) (ps : List Placed) → AllByRecursion IsGoodIn ps → has_good_names (option_map_or (λ (p : Placed). p.type) (find q ps) VoidType) ≡ true
-found_good q [] all = refl
-found_good q (p ∷ ps) all = by (q p) (found_good q ps all.1)
+found_good : (structs : List Struct) (q : Placed → Bool) (ps : List Placed) → AllByRecursion (IsGoodIn structs) ps → has_good_names (option_map_or (λ (p : Placed). p.type) (find q ps) VoidType) ≡ true
+found_good structs q [] all = refl
+found_good structs q (p ∷ ps) all = by (q p) (found_good structs q ps all.1)
   where
     by : (b : Bool) → has_good_names (option_map_or (λ (p : Placed). p.type) (find q ps) VoidType) ≡ true → has_good_names (option_map_or (λ (p : Placed). p.type) (cond b (Some p) (find q ps)) VoidType) ≡ true
     by true others = all.0.result
@@ -158,11 +181,11 @@ if_good : (b : Bool) (t : TypeTree) → has_good_names t ≡ true → has_good_n
 if_good true t h = h
 if_good false t h = refl
 
--- so are those in the type of an operand, of a constant where they are in its own type
-pub operand_good : (f : Function) → AreGoodIn f → (o : Operand) → AllByRecursion HasGoodNames (constant_type o) → has_good_names (operand_type f o) ≡ true
-operand_good f good (Constant c) own = own.0
-operand_good f good (Parameter g i) own = if_good (nat_eq g f.number) (param_type f.type i) (param_good f.type i good.signature)
-operand_good f good (Result n) own = found_good (λ (p : Placed). nat_eq p.number n) (placed_in f) good.placed
+-- so are those in the type of an operand, of a constant where its own type nests in the structs
+pub operand_good : (structs : List Struct) → AllByRecursion IsFormStruct structs → (f : Function) → AreGoodIn structs f → (o : Operand) → AllByRecursion (IsNested structs) (constant_type o) → has_good_names (operand_type f o) ≡ true
+operand_good structs all f good (Constant c) own = nested_good structs all (const_type c) own.0
+operand_good structs all f good (Parameter g i) own = if_good (nat_eq g f.number) (param_type f.type i) (param_good f.type i good.signature)
+operand_good structs all f good (Result n) own = found_good structs (λ (p : Placed). nat_eq p.number n) (placed_in f) good.placed
 
 -- ---- modules
 
@@ -173,16 +196,17 @@ module _ (structs : List Struct) (all : AllByRecursion IsFormStruct structs) whe
   abbrev results_of : List Placed → List TypeTree
   results_of ps = map (λ (p : Placed). p.type) ps
 
-  types_good : (ts : List TypeTree) → AreNested ts → AllByRecursion HasGoodNames ts
-  types_good [] h = tt
-  types_good (t ∷ ts) h = (nested_good structs all t h.0, types_good ts h.1)
+  -- the operands of instructions are made of what their types ask for
+  abbrev AreMade : List Placed → Type 0
+  AreMade ps = AllByRecursion (λ (p : Placed). All (IsMadeOperand structs) (operands_of p.instruction)) ps
 
-  firsts : (ps qs : List Placed) → AreNested (results_of (ps ++ qs)) → AreNested (flat_map constant_types (ps ++ qs)) → AllByRecursion IsGoodIn ps
-  firsts [] qs h k = tt
-  firsts (p ∷ ps) qs h k =
+  firsts : (ps qs : List Placed) → AreMade ps → AreNested (results_of (ps ++ qs)) → AreNested (flat_map constant_types (ps ++ qs)) → AllByRecursion (IsGoodIn structs) ps
+  firsts [] qs made h k = tt
+  firsts (p ∷ ps) qs made h k =
       let more = flat_map constant_types (ps ++ qs) in
-      let own = types_good (constant_types p) (all_front (IsNested structs) (constant_types p) more k) in
-      (record { result = nested_good structs all p.type h.0; constants = own }, firsts ps qs h.1 (all_back (IsNested structs) (constant_types p) more k))
+      let own = all_front (IsNested structs) (constant_types p) more k in
+      let operands = recursion_from_All (IsMadeOperand structs) (operands_of p.instruction) made.0 in
+      (record { result = nested_good structs all p.type h.0; constants = own; made = operands }, firsts ps qs made.1 h.1 (all_back (IsNested structs) (constant_types p) more k))
 
   others : (ps qs : List Placed) → AreNested (results_of (ps ++ qs)) → AreNested (results_of qs)
   others [] qs h = h
@@ -192,12 +216,14 @@ module _ (structs : List Struct) (all : AllByRecursion IsFormStruct structs) whe
   others_used [] qs k = k
   others_used (p ∷ ps) qs k = others_used ps qs (all_back (IsNested structs) (constant_types p) (flat_map constant_types (ps ++ qs)) k)
 
-  functions_good : (fs : List Function) → AreNested (map (λ (f : Function). f.type) fs) → AreNested (results_of (flat_map placed_in fs)) → AreNested (flat_map constant_types (flat_map placed_in fs)) → AllByRecursion AreGoodIn fs
-  functions_good [] signatures results constants = tt
-  functions_good (f ∷ fs) signatures results constants =
-      let rest = flat_map placed_in fs in (
-        record { signature = nested_good structs all f.type signatures.0; placed = firsts (placed_in f) rest results constants },
-        functions_good fs signatures.1 (others (placed_in f) rest results) (others_used (placed_in f) rest constants),
+  functions_good : (fs : List Function) → AllByRecursion (HasMadeOperands structs) fs → AreNested (map (λ (f : Function). f.type) fs) → AreNested (results_of (flat_map placed_in fs)) → AreNested (flat_map constant_types (flat_map placed_in fs))
+      → AllByRecursion (AreGoodIn structs) fs
+  functions_good [] made signatures results constants = tt
+  functions_good (f ∷ fs) made signatures results constants =
+      let rest = flat_map placed_in fs in
+      let own = recursion_from_All (λ (p : Placed). All (IsMadeOperand structs) (operands_of p.instruction)) (placed_in f) made.0 in (
+        record { signature = nested_good structs all f.type signatures.0; placed = firsts (placed_in f) rest own results constants },
+        functions_good fs made.1 signatures.1 (others (placed_in f) rest results) (others_used (placed_in f) rest constants),
       )
 
 module _ (d : ModuleData) (h : IsSayableModule d) where
@@ -213,7 +239,7 @@ module _ (d : ModuleData) (h : IsSayableModule d) where
   abbrev named : List TypeTree
   named = map (λ (s : Struct). NamedType s.name) d.structs
 
-  forms : AllByRecursion IsFormStruct d.structs
+  pub forms : AllByRecursion IsFormStruct d.structs
   forms = recursion_from_All IsFormStruct d.structs h.structs
 
   nested : AllByRecursion (IsNested d.structs) (types_in d)
@@ -225,9 +251,12 @@ module _ (d : ModuleData) (h : IsSayableModule d) where
   early : AllByRecursion (IsNested d.structs) (named ++ signatures)
   early = all_front (IsNested d.structs) (named ++ signatures) results middle
 
+  made : AllByRecursion (HasMadeOperands d.structs) d.functions
+  made = recursion_from_All (HasMadeOperands d.structs) d.functions h.elements
+
   -- the names in the types of each function are good
-  pub good_functions : AllByRecursion AreGoodIn d.functions
-  good_functions = functions_good d.structs forms d.functions (all_back (IsNested d.structs) named signatures early) (all_back (IsNested d.structs) (named ++ signatures) results middle)
+  pub good_functions : AllByRecursion (AreGoodIn d.structs) d.functions
+  good_functions = functions_good d.structs forms d.functions made (all_back (IsNested d.structs) named signatures early) (all_back (IsNested d.structs) (named ++ signatures) results middle)
       (all_back (IsNested d.structs) (named ++ signatures ++ results) constants nested)
 
   -- and its structs may be written

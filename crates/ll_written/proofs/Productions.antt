@@ -3,7 +3,7 @@ use Rattle.std.proofs.Common.{◌≡◌, ℕ, true, false, List, [], ◌∷◌, 
 use Rattle.ll_classes.specs.Llvm.{llvm_class}
 use Rattle.ll_rules.specs.Llvm.{llvm}
 use Rattle.ll_spacing.specs.Spacing.{Spaced}
-use Rattle.ll_tokens.specs.declared.kinds.Kind.TheVariants.{Word, Global, Local, Label, Int, Str, Equals, Comma, OpenParen, CloseParen, OpenBracket, CloseBracket, OpenBrace, CloseBrace, Less, Greater}
+use Rattle.ll_tokens.specs.declared.kinds.Kind.TheVariants.{Word, Global, Local, Label, Int, Str, CStr, Equals, Comma, OpenParen, CloseParen, OpenBracket, CloseBracket, OpenBrace, CloseBrace, Less, Greater}
 use Rattle.ll_values.specs.declared.form.Kind.TheVariants as K
 use Rattle.ll_values.specs.declared.form.DetailKind.TheVariants as D
 use Rattle.ll_values.specs.declared.form.ListKind.TheVariants as L
@@ -296,6 +296,29 @@ value_literal_zeroinitializer b0 made_by =
 pub value_null : {v : Value} (b0 : Text) → value_by (K.Detail D.Null) [] ≡ Some v → Reads N.value v (token b0 Word (codes "null") ∷ [])
 value_null b0 made_by = made llvm KINDS 84 367 (K.Detail D.Null) {cs = []} refl refl refl made_by (word llvm KINDS (token b0 Word (codes "null")) C.word_null (nothing llvm KINDS))
 
+-- value = '[' tconsts ']'
+pub value_inarray : {v v1 : Value} {x1 : List Spaced} (b0 b2 : Text) → Reads N.tconsts v1 x1 → value_by (K.List L.InArray) (v1 ∷ []) ≡ Some v → Reads N.value v (token b0 OpenBracket (codes "[") ∷ (x1 ++ (token b2 CloseBracket (codes "]") ∷ [])))
+value_inarray {v1} b0 b2 h1 made_by =
+    made llvm KINDS 84 368 (K.List L.InArray) {cs = v1 ∷ []} refl refl refl made_by (word llvm KINDS (token b0 OpenBracket (codes "[")) C.sign_openbracket (rule llvm KINDS h1 (word llvm KINDS (token b2 CloseBracket (codes "]")) C.sign_closebracket (nothing llvm KINDS))))
+
+-- value = '{' tconsts '}'
+pub value_instruct : {v v1 : Value} {x1 : List Spaced} (b0 b2 : Text) → Reads N.tconsts v1 x1 → value_by (K.List L.InStruct) (v1 ∷ []) ≡ Some v → Reads N.value v (token b0 OpenBrace (codes "{") ∷ (x1 ++ (token b2 CloseBrace (codes "}") ∷ [])))
+value_instruct {v1} b0 b2 h1 made_by =
+    made llvm KINDS 84 369 (K.List L.InStruct) {cs = v1 ∷ []} refl refl refl made_by (word llvm KINDS (token b0 OpenBrace (codes "{")) C.sign_openbrace (rule llvm KINDS h1 (word llvm KINDS (token b2 CloseBrace (codes "}")) C.sign_closebrace (nothing llvm KINDS))))
+
+-- value = '<' const_angle
+pub value_const_angle : {v1 : Value} {x1 : List Spaced} (b0 : Text) → Reads N.const_angle v1 x1 → Reads N.value v1 (token b0 Less (codes "<") ∷ x1)
+value_const_angle {v1} b0 h1 = made llvm KINDS 84 370 K.Same {cs = v1 ∷ []} refl refl refl refl (word llvm KINDS (token b0 Less (codes "<")) C.sign_less (last llvm KINDS h1))
+
+-- value = CSTR
+pub value_chars : {v : Value} (b0 t0 : Text) → value_by (K.Detail D.Chars) (TextV t0 ∷ []) ≡ Some v → Reads N.value v (token b0 CStr t0 ∷ [])
+value_chars b0 t0 made_by = made llvm KINDS 84 371 (K.Detail D.Chars) {cs = TextV t0 ∷ []} refl refl refl made_by (leaf llvm KINDS (token b0 CStr t0) (C.kind_cstr t0) (nothing llvm KINDS))
+
+-- value = 'splat' '(' tconst ')'
+pub value_splat : {v v2 : Value} {x2 : List Spaced} (b0 b1 b3 : Text) → Reads N.tconst v2 x2 → value_by (K.Detail D.Splat) (v2 ∷ []) ≡ Some v → Reads N.value v (token b0 Word (codes "splat") ∷ (token b1 OpenParen (codes "(") ∷ (x2 ++ (token b3 CloseParen (codes ")") ∷ []))))
+value_splat {v2} b0 b1 b3 h2 made_by =
+    made llvm KINDS 84 372 (K.Detail D.Splat) {cs = v2 ∷ []} refl refl refl made_by (word llvm KINDS (token b0 Word (codes "splat")) C.word_splat (word llvm KINDS (token b1 OpenParen (codes "(")) C.sign_openparen (rule llvm KINDS h2 (word llvm KINDS (token b3 CloseParen (codes ")")) C.sign_closeparen (nothing llvm KINDS)))))
+
 -- typed = type value
 pub typed : {v v0 v1 : Value} {x0 x1 : List Spaced} → Reads N.type v0 x0 → Reads N.value v1 x1 → value_by (K.Typed T.Typed) (v0 ∷ v1 ∷ []) ≡ Some v → Reads N.typed v (x0 ++ x1)
 typed {v0} {v1} h0 h1 made_by = made llvm KINDS 85 378 (K.Typed T.Typed) {cs = v0 ∷ v1 ∷ []} refl refl refl made_by (rule llvm KINDS h0 (last llvm KINDS h1))
@@ -304,6 +327,121 @@ typed {v0} {v1} h0 h1 made_by = made llvm KINDS 85 378 (K.Typed T.Typed) {cs = v
 pub pair : {v v0 v1 v3 : Value} {x0 x1 x3 : List Spaced} (b2 : Text) → Reads N.type v0 x0 → Reads N.value v1 x1 → Reads N.value v3 x3 → value_by (K.Typed T.Pair) (v0 ∷ v1 ∷ v3 ∷ []) ≡ Some v → Reads N.pair v (x0 ++ (x1 ++ (token b2 Comma (codes ",") ∷ x3)))
 pair {v0} {v1} {v3} b2 h0 h1 h3 made_by =
     made llvm KINDS 86 379 (K.Typed T.Pair) {cs = v0 ∷ v1 ∷ v3 ∷ []} refl refl refl made_by (rule llvm KINDS h0 (rule llvm KINDS h1 (word llvm KINDS (token b2 Comma (codes ",")) C.sign_comma (last llvm KINDS h3))))
+
+-- tconst = type const
+pub tconst_typed : {v v0 v1 : Value} {x0 x1 : List Spaced} → Reads N.type v0 x0 → Reads N.const v1 x1 → value_by (K.Typed T.Typed) (v0 ∷ v1 ∷ []) ≡ Some v → Reads N.tconst v (x0 ++ x1)
+tconst_typed {v0} {v1} h0 h1 made_by = made llvm KINDS 71 299 (K.Typed T.Typed) {cs = v0 ∷ v1 ∷ []} refl refl refl made_by (rule llvm KINDS h0 (last llvm KINDS h1))
+
+-- const = INT
+pub const_literal_int : {v : Value} (b0 t0 : Text) → value_by (K.Detail D.Literal) (TextV t0 ∷ []) ≡ Some v → Reads N.const v (token b0 Int t0 ∷ [])
+const_literal_int b0 t0 made_by = made llvm KINDS 72 300 (K.Detail D.Literal) {cs = TextV t0 ∷ []} refl refl refl made_by (leaf llvm KINDS (token b0 Int t0) (C.kind_int t0) (nothing llvm KINDS))
+
+-- const = CONST
+pub const_literal_false : {v : Value} (b0 : Text) → value_by (K.Detail D.Literal) (TextV (codes "false") ∷ []) ≡ Some v → Reads N.const v (token b0 Word (codes "false") ∷ [])
+const_literal_false b0 made_by =
+    made llvm KINDS 72 301 (K.Detail D.Literal) {cs = TextV (codes "false") ∷ []} refl refl refl made_by (leaf llvm KINDS (token b0 Word (codes "false")) C.word_false (nothing llvm KINDS))
+
+-- const = CONST
+pub const_literal_poison : {v : Value} (b0 : Text) → value_by (K.Detail D.Literal) (TextV (codes "poison") ∷ []) ≡ Some v → Reads N.const v (token b0 Word (codes "poison") ∷ [])
+const_literal_poison b0 made_by =
+    made llvm KINDS 72 301 (K.Detail D.Literal) {cs = TextV (codes "poison") ∷ []} refl refl refl made_by (leaf llvm KINDS (token b0 Word (codes "poison")) C.word_poison (nothing llvm KINDS))
+
+-- const = CONST
+pub const_literal_true : {v : Value} (b0 : Text) → value_by (K.Detail D.Literal) (TextV (codes "true") ∷ []) ≡ Some v → Reads N.const v (token b0 Word (codes "true") ∷ [])
+const_literal_true b0 made_by =
+    made llvm KINDS 72 301 (K.Detail D.Literal) {cs = TextV (codes "true") ∷ []} refl refl refl made_by (leaf llvm KINDS (token b0 Word (codes "true")) C.word_true (nothing llvm KINDS))
+
+-- const = CONST
+pub const_literal_undef : {v : Value} (b0 : Text) → value_by (K.Detail D.Literal) (TextV (codes "undef") ∷ []) ≡ Some v → Reads N.const v (token b0 Word (codes "undef") ∷ [])
+const_literal_undef b0 made_by =
+    made llvm KINDS 72 301 (K.Detail D.Literal) {cs = TextV (codes "undef") ∷ []} refl refl refl made_by (leaf llvm KINDS (token b0 Word (codes "undef")) C.word_undef (nothing llvm KINDS))
+
+-- const = CONST
+pub const_literal_zeroinitializer : {v : Value} (b0 : Text) → value_by (K.Detail D.Literal) (TextV (codes "zeroinitializer") ∷ []) ≡ Some v → Reads N.const v (token b0 Word (codes "zeroinitializer") ∷ [])
+const_literal_zeroinitializer b0 made_by =
+    made llvm KINDS 72 301 (K.Detail D.Literal) {cs = TextV (codes "zeroinitializer") ∷ []} refl refl refl made_by (leaf llvm KINDS (token b0 Word (codes "zeroinitializer")) C.word_zeroinitializer (nothing llvm KINDS))
+
+-- const = 'null'
+pub const_null : {v : Value} (b0 : Text) → value_by (K.Detail D.Null) [] ≡ Some v → Reads N.const v (token b0 Word (codes "null") ∷ [])
+const_null b0 made_by = made llvm KINDS 72 302 (K.Detail D.Null) {cs = []} refl refl refl made_by (word llvm KINDS (token b0 Word (codes "null")) C.word_null (nothing llvm KINDS))
+
+-- const = '[' tconsts ']'
+pub const_inarray : {v v1 : Value} {x1 : List Spaced} (b0 b2 : Text) → Reads N.tconsts v1 x1 → value_by (K.List L.InArray) (v1 ∷ []) ≡ Some v → Reads N.const v (token b0 OpenBracket (codes "[") ∷ (x1 ++ (token b2 CloseBracket (codes "]") ∷ [])))
+const_inarray {v1} b0 b2 h1 made_by =
+    made llvm KINDS 72 303 (K.List L.InArray) {cs = v1 ∷ []} refl refl refl made_by (word llvm KINDS (token b0 OpenBracket (codes "[")) C.sign_openbracket (rule llvm KINDS h1 (word llvm KINDS (token b2 CloseBracket (codes "]")) C.sign_closebracket (nothing llvm KINDS))))
+
+-- const = '{' tconsts '}'
+pub const_instruct : {v v1 : Value} {x1 : List Spaced} (b0 b2 : Text) → Reads N.tconsts v1 x1 → value_by (K.List L.InStruct) (v1 ∷ []) ≡ Some v → Reads N.const v (token b0 OpenBrace (codes "{") ∷ (x1 ++ (token b2 CloseBrace (codes "}") ∷ [])))
+const_instruct {v1} b0 b2 h1 made_by =
+    made llvm KINDS 72 304 (K.List L.InStruct) {cs = v1 ∷ []} refl refl refl made_by (word llvm KINDS (token b0 OpenBrace (codes "{")) C.sign_openbrace (rule llvm KINDS h1 (word llvm KINDS (token b2 CloseBrace (codes "}")) C.sign_closebrace (nothing llvm KINDS))))
+
+-- const = '<' const_angle
+pub const_const_angle : {v1 : Value} {x1 : List Spaced} (b0 : Text) → Reads N.const_angle v1 x1 → Reads N.const v1 (token b0 Less (codes "<") ∷ x1)
+const_const_angle {v1} b0 h1 = made llvm KINDS 72 305 K.Same {cs = v1 ∷ []} refl refl refl refl (word llvm KINDS (token b0 Less (codes "<")) C.sign_less (last llvm KINDS h1))
+
+-- const = CSTR
+pub const_chars : {v : Value} (b0 t0 : Text) → value_by (K.Detail D.Chars) (TextV t0 ∷ []) ≡ Some v → Reads N.const v (token b0 CStr t0 ∷ [])
+const_chars b0 t0 made_by = made llvm KINDS 72 306 (K.Detail D.Chars) {cs = TextV t0 ∷ []} refl refl refl made_by (leaf llvm KINDS (token b0 CStr t0) (C.kind_cstr t0) (nothing llvm KINDS))
+
+-- const = 'splat' '(' tconst ')'
+pub const_splat : {v v2 : Value} {x2 : List Spaced} (b0 b1 b3 : Text) → Reads N.tconst v2 x2 → value_by (K.Detail D.Splat) (v2 ∷ []) ≡ Some v → Reads N.const v (token b0 Word (codes "splat") ∷ (token b1 OpenParen (codes "(") ∷ (x2 ++ (token b3 CloseParen (codes ")") ∷ []))))
+const_splat {v2} b0 b1 b3 h2 made_by =
+    made llvm KINDS 72 307 (K.Detail D.Splat) {cs = v2 ∷ []} refl refl refl made_by (word llvm KINDS (token b0 Word (codes "splat")) C.word_splat (word llvm KINDS (token b1 OpenParen (codes "(")) C.sign_openparen (rule llvm KINDS h2 (word llvm KINDS (token b3 CloseParen (codes ")")) C.sign_closeparen (nothing llvm KINDS)))))
+
+-- tconsts = tconst more_tconsts
+pub tconsts_more : {v v0 v1 : Value} {x0 x1 : List Spaced} → Reads N.tconst v0 x0 → Reads N.more_tconsts v1 x1 → value_by (K.List L.ConstsMore) (v0 ∷ v1 ∷ []) ≡ Some v → Reads N.tconsts v (x0 ++ x1)
+tconsts_more {v0} {v1} h0 h1 made_by = made llvm KINDS 79 325 (K.List L.ConstsMore) {cs = v0 ∷ v1 ∷ []} refl refl refl made_by (rule llvm KINDS h0 (last llvm KINDS h1))
+
+-- tconsts = nothing
+pub tconsts_end : {v : Value} → value_by (K.List L.ConstsEnd) [] ≡ Some v → Reads N.tconsts v []
+tconsts_end made_by = made llvm KINDS 79 326 (K.List L.ConstsEnd) {cs = []} refl refl refl made_by (nothing llvm KINDS)
+
+-- more_tconsts = ',' tconst more_tconsts
+pub more_tconsts_more : {v v1 v2 : Value} {x1 x2 : List Spaced} (b0 : Text) → Reads N.tconst v1 x1 → Reads N.more_tconsts v2 x2 → value_by (K.List L.ConstsMore) (v1 ∷ v2 ∷ []) ≡ Some v → Reads N.more_tconsts v (token b0 Comma (codes ",") ∷ (x1 ++ x2))
+more_tconsts_more {v1} {v2} b0 h1 h2 made_by =
+    made llvm KINDS 80 327 (K.List L.ConstsMore) {cs = v1 ∷ v2 ∷ []} refl refl refl made_by (word llvm KINDS (token b0 Comma (codes ",")) C.sign_comma (rule llvm KINDS h1 (last llvm KINDS h2)))
+
+-- more_tconsts = nothing
+pub more_tconsts_end : {v : Value} → value_by (K.List L.ConstsEnd) [] ≡ Some v → Reads N.more_tconsts v []
+more_tconsts_end made_by = made llvm KINDS 80 328 (K.List L.ConstsEnd) {cs = []} refl refl refl made_by (nothing llvm KINDS)
+
+-- const_angle = '{' const_brace
+pub const_angle_const_brace : {v1 : Value} {x1 : List Spaced} (b0 : Text) → Reads N.const_brace v1 x1 → Reads N.const_angle v1 (token b0 OpenBrace (codes "{") ∷ x1)
+const_angle_const_brace {v1} b0 h1 = made llvm KINDS 73 313 K.Same {cs = v1 ∷ []} refl refl refl refl (word llvm KINDS (token b0 OpenBrace (codes "{")) C.sign_openbrace (last llvm KINDS h1))
+
+-- const_angle = flat const more_tconsts '>'
+pub const_angle_invector : {v v0 v1 v2 : Value} {x0 x1 x2 : List Spaced} (b3 : Text) → Reads N.flat v0 x0 → Reads N.const v1 x1 → Reads N.more_tconsts v2 x2 → value_by (K.Typed T.InVector) (v0 ∷ v1 ∷ v2 ∷ []) ≡ Some v → Reads N.const_angle v (x0 ++ (x1 ++ (x2 ++ (token b3 Greater (codes ">") ∷ []))))
+const_angle_invector {v0} {v1} {v2} b3 h0 h1 h2 made_by =
+    made llvm KINDS 73 314 (K.Typed T.InVector) {cs = v0 ∷ v1 ∷ v2 ∷ []} refl refl refl made_by (rule llvm KINDS h0 (rule llvm KINDS h1 (rule llvm KINDS h2 (word llvm KINDS (token b3 Greater (codes ">")) C.sign_greater (nothing llvm KINDS)))))
+
+-- const_brace = '}' const_empty
+pub const_brace_const_empty : {v1 : Value} {x1 : List Spaced} (b0 : Text) → Reads N.const_empty v1 x1 → Reads N.const_brace v1 (token b0 CloseBrace (codes "}") ∷ x1)
+const_brace_const_empty {v1} b0 h1 = made llvm KINDS 74 316 K.Same {cs = v1 ∷ []} refl refl refl refl (word llvm KINDS (token b0 CloseBrace (codes "}")) C.sign_closebrace (last llvm KINDS h1))
+
+-- const_brace = type const_braced
+pub const_brace_inpacked : {v v0 v1 : Value} {x0 x1 : List Spaced} → Reads N.type v0 x0 → Reads N.const_braced v1 x1 → value_by (K.Typed T.InPacked) (v0 ∷ v1 ∷ []) ≡ Some v → Reads N.const_brace v (x0 ++ x1)
+const_brace_inpacked {v0} {v1} h0 h1 made_by = made llvm KINDS 74 317 (K.Typed T.InPacked) {cs = v0 ∷ v1 ∷ []} refl refl refl made_by (rule llvm KINDS h0 (last llvm KINDS h1))
+
+-- const_empty = '>'
+pub const_empty_nonepacked : {v : Value} (b0 : Text) → value_by (K.List L.NonePacked) [] ≡ Some v → Reads N.const_empty v (token b0 Greater (codes ">") ∷ [])
+const_empty_nonepacked b0 made_by = made llvm KINDS 75 318 (K.List L.NonePacked) {cs = []} refl refl refl made_by (word llvm KINDS (token b0 Greater (codes ">")) C.sign_greater (nothing llvm KINDS))
+
+-- const_braced = const more_tconsts '}' '>'
+pub const_braced_braced : {v v0 v1 : Value} {x0 x1 : List Spaced} (b2 b3 : Text) → Reads N.const v0 x0 → Reads N.more_tconsts v1 x1 → value_by (K.List L.Braced) (v0 ∷ v1 ∷ []) ≡ Some v → Reads N.const_braced v (x0 ++ (x1 ++ (token b2 CloseBrace (codes "}") ∷ token b3 Greater (codes ">") ∷ [])))
+const_braced_braced {v0} {v1} b2 b3 h0 h1 made_by =
+    made llvm KINDS 76 320 (K.List L.Braced) {cs = v0 ∷ v1 ∷ []} refl refl refl made_by (rule llvm KINDS h0 (rule llvm KINDS h1 (word llvm KINDS (token b2 CloseBrace (codes "}")) C.sign_closebrace (word llvm KINDS (token b3 Greater (codes ">")) C.sign_greater (nothing llvm KINDS)))))
+
+-- flat = INTTYPE
+pub flat_int : {v : Value} (b0 t0 : Text) → llvm_class Word t0 ≡ C.inttype → value_by (K.Typed T.Int) (TextV t0 ∷ []) ≡ Some v → Reads N.flat v (token b0 Word t0 ∷ [])
+flat_int b0 t0 h0 made_by = made llvm KINDS 62 276 (K.Typed T.Int) {cs = TextV t0 ∷ []} refl refl refl made_by (leaf llvm KINDS (token b0 Word t0) h0 (nothing llvm KINDS))
+
+-- flat = 'ptr' space
+pub flat_pointer : {v v1 : Value} {x1 : List Spaced} (b0 : Text) → Reads N.space v1 x1 → value_by (K.Typed T.Pointer) (v1 ∷ []) ≡ Some v → Reads N.flat v (token b0 Word (codes "ptr") ∷ x1)
+flat_pointer {v1} b0 h1 made_by = made llvm KINDS 62 277 (K.Typed T.Pointer) {cs = v1 ∷ []} refl refl refl made_by (word llvm KINDS (token b0 Word (codes "ptr")) C.word_ptr (last llvm KINDS h1))
+
+-- flat = FLAT
+pub flat : {v : Value} (b0 t0 : Text) → llvm_class Word t0 ≡ C.flat → value_by (K.Typed T.Flat) (TextV t0 ∷ []) ≡ Some v → Reads N.flat v (token b0 Word t0 ∷ [])
+flat b0 t0 h0 made_by = made llvm KINDS 62 278 (K.Typed T.Flat) {cs = TextV t0 ∷ []} refl refl refl made_by (leaf llvm KINDS (token b0 Word t0) h0 (nothing llvm KINDS))
 
 -- inst = simple attached
 pub inst : {v v0 v1 : Value} {x0 x1 : List Spaced} → Reads N.simple v0 x0 → Reads N.attached v1 x1 → value_by (K.Detail D.Inst) (v0 ∷ v1 ∷ []) ≡ Some v → Reads N.inst v (x0 ++ x1)

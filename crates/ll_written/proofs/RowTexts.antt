@@ -8,14 +8,15 @@ use Rattle.kinds.specs.declared.op.Op.TheVariants as O
 use Rattle.kinds.specs.Rules.{operand_count, target_count}
 use Rattle.kinds.specs.Table.{rule_of}
 use Rattle.kinds.specs.Types.{TypeTree}
-use Rattle.llvm_core.specs.Data.{Operand, Constant, Parameter, Result, Function, operand_type}
+use Rattle.llvm_core.specs.Data.{Struct, Operand, Constant, Parameter, Result, Function, operand_type}
 use Rattle.ll_lines.specs.Lines.{Text}
 use Rattle.ll_said.specs.Naming.{block_ref}
-use Rattle.ll_said.specs.Said.{said_of, typed_of, row_of}
+use Rattle.ll_said.specs.Said.{said_const, said_of, typed_of, row_of}
 use Rattle.ll_spacing.specs.Spacing.{Spaced, text_of}
 use Rattle.ll_tokens.specs.declared.kinds.Kind.TheVariants.{Word}
 use Rattle.ll_written.specs.Printing as P
-use Rattle.ll_written.specs.Written.{token, comma, written_type, written_said, written_typed, next_said, written_operands, next_typed, written_values, written_returned, written_target, next_target, written_targets, written_to, written_flag, written_wraps, written_names}
+use Rattle.ll_written.specs.Written.{token, comma, written_said, written_typed, next_said, written_operands, next_typed, written_values, written_returned, written_target, next_target, written_targets, written_to, written_flag, written_wraps, written_names}
+use Rattle.ll_written.proofs.ConstTokens.{type_then, const_written}
 use Rattle.ll_written.proofs.TypeTokens.{text_both, type_written}
 
 -- a row that names operands or blocks, or may
@@ -28,54 +29,50 @@ has_names op = true
 pub joined : (xs ys : List Spaced) (t u : Text) → text_of xs ≡ t → text_of ys ≡ u → text_of (xs ++ ys) ≡ t ++ u
 joined xs ys t u e f = text_both xs ys ∙ ap (λ (s : Text). s ++ text_of ys) e ∙ ap (λ (s : Text). t ++ s) f
 
--- a type before other tokens
-pub type_then : (b : Text) (τ : TypeTree) (xs : List Spaced) → text_of (written_type b τ ++ xs) ≡ b ++ P.type_text τ ++ text_of xs
-type_then b τ xs = text_both (written_type b τ) xs ∙ ap (λ (t : Text). t ++ text_of xs) (type_written b τ)
-
 -- one thing behind another
 pub texts_each : {A B : Type 0} (f : A → List Spaced) (of : B → A) (g : B → Text) → ((x : B) → text_of (f (of x)) ≡ g x) → (xs : List B) → text_of (flat_map f (map of xs)) ≡ flat_map g xs
 texts_each f of g same [] = refl
 texts_each f of g same (x ∷ xs) = text_both (f (of x)) (flat_map f (map of xs)) ∙ rw (same x, texts_each f of g same xs) refl
 
-module _ (f : Function) where
+module _ (structs : List Struct) (f : Function) where
   -- ---- values
 
-  pub said_text : (o : Operand) (xs : List Spaced) → text_of (written_said (said_of f o) ∷ xs) ≡ codes " " ++ (P.operand_text f o ++ text_of xs)
-  said_text (Constant c) xs = refl
-  said_text (Parameter g i) xs = refl
-  said_text (Result n) xs = refl
+  pub said_text : (o : Operand) → text_of (written_said (said_of structs f o)) ≡ codes " " ++ P.operand_text structs f o
+  said_text (Constant c) = const_written (said_const structs c)
+  said_text (Parameter g i) = append-nil (codes " " ++ P.operand_text structs f (Parameter g i))
+  said_text (Result n) = append-nil (codes " " ++ P.operand_text structs f (Result n))
 
-  typed_text : (o : Operand) → text_of (written_typed (typed_of f o)) ≡ codes " " ++ P.value_text f o
-  typed_text o = type_then (codes " ") (operand_type f o) (written_said (said_of f o) ∷ []) ∙ rw (said_text o []) (simp (append_assoc, append-nil))
+  typed_text : (o : Operand) → text_of (written_typed (typed_of structs f o)) ≡ codes " " ++ P.value_text structs f o
+  typed_text o = type_then (codes " ") (operand_type f o) (written_said (said_of structs f o)) ∙ rw (said_text o) (simp append_assoc)
 
-  next_said_text : (o : Operand) → text_of (next_said (typed_of f o)) ≡ codes ", " ++ P.operand_text f o
-  next_said_text o = rw (said_text o []) (simp append-nil)
+  next_said_text : (o : Operand) → text_of (next_said (typed_of structs f o)) ≡ codes ", " ++ P.operand_text structs f o
+  next_said_text o = ap (λ (t : Text). codes "," ++ t) (said_text o)
 
-  next_typed_text : (o : Operand) → text_of (next_typed (typed_of f o)) ≡ codes ", " ++ P.value_text f o
+  next_typed_text : (o : Operand) → text_of (next_typed (typed_of structs f o)) ≡ codes ", " ++ P.value_text structs f o
   next_typed_text o = rw (typed_text o) refl
 
   -- ---- what rows name
 
   abbrev after_said : Operand → Text
-  after_said x = codes ", " ++ P.operand_text f x
+  after_said x = codes ", " ++ P.operand_text structs f x
 
   abbrev after_typed : Operand → Text
-  after_typed x = codes ", " ++ P.value_text f x
+  after_typed x = codes ", " ++ P.value_text structs f x
 
   abbrev after_target : ℕ → Text
   after_target n = codes ", " ++ P.target_text f n
 
-  operands_text : (os : List Operand) → 1 ≤ length os → text_of (written_operands (map (typed_of f) os)) ≡ codes " " ++ P.operands_text f os
+  operands_text : (os : List Operand) → 1 ≤ length os → text_of (written_operands (map (typed_of structs f) os)) ≡ codes " " ++ P.operands_text structs f os
   operands_text [] some = absurd (omega arith)
   operands_text (o ∷ os) some =
-      joined (written_typed (typed_of f o)) (flat_map next_said (map (typed_of f) os)) (codes " " ++ P.value_text f o) (flat_map after_said os) (typed_text o) (texts_each next_said (typed_of f) after_said next_said_text os)
+      joined (written_typed (typed_of structs f o)) (flat_map next_said (map (typed_of structs f) os)) (codes " " ++ P.value_text structs f o) (flat_map after_said os) (typed_text o) (texts_each next_said (typed_of structs f) after_said next_said_text os)
 
-  values_text : (os : List Operand) → 1 ≤ length os → text_of (written_values (map (typed_of f) os)) ≡ codes " " ++ P.values_text f os
+  values_text : (os : List Operand) → 1 ≤ length os → text_of (written_values (map (typed_of structs f) os)) ≡ codes " " ++ P.values_text structs f os
   values_text [] some = absurd (omega arith)
   values_text (o ∷ os) some =
-      joined (written_typed (typed_of f o)) (flat_map next_typed (map (typed_of f) os)) (codes " " ++ P.value_text f o) (flat_map after_typed os) (typed_text o) (texts_each next_typed (typed_of f) after_typed next_typed_text os)
+      joined (written_typed (typed_of structs f o)) (flat_map next_typed (map (typed_of structs f) os)) (codes " " ++ P.value_text structs f o) (flat_map after_typed os) (typed_text o) (texts_each next_typed (typed_of structs f) after_typed next_typed_text os)
 
-  returned_text : (os : List Operand) → text_of (written_returned (map (typed_of f) os)) ≡ codes " " ++ P.returned_text f os
+  returned_text : (os : List Operand) → text_of (written_returned (map (typed_of structs f) os)) ≡ codes " " ++ P.returned_text structs f os
   returned_text [] = refl
   returned_text (o ∷ os) = operands_text (o ∷ os) (omega arith)
 
@@ -94,16 +91,16 @@ module _ (f : Function) where
   to_text None = refl
   to_text (Some τ) = ap (λ (t : Text). codes " to" ++ t) (type_written (codes " ") τ)
 
-  most_text : (w : Option TypeTree) (os : List Operand) → 1 ≤ length os → text_of (written_operands (map (typed_of f) os) ++ written_to w) ≡ codes " " ++ (P.operands_text f os ++ P.to_text w)
-  most_text w os some = joined (written_operands (map (typed_of f) os)) (written_to w) (codes " " ++ P.operands_text f os) (P.to_text w) (operands_text os some) (to_text w)
+  most_text : (w : Option TypeTree) (os : List Operand) → 1 ≤ length os → text_of (written_operands (map (typed_of structs f) os) ++ written_to w) ≡ codes " " ++ (P.operands_text structs f os ++ P.to_text w)
+  most_text w os some = joined (written_operands (map (typed_of structs f) os)) (written_to w) (codes " " ++ P.operands_text structs f os) (P.to_text w) (operands_text os some) (to_text w)
 
   branch_text : (os : List Operand) (ts : List ℕ) → 1 ≤ length os → 1 ≤ length ts
-      → text_of (written_operands (map (typed_of f) os) ++ (comma ∷ written_targets (map (block_ref f) ts))) ≡ codes " " ++ (P.operands_text f os ++ codes ", " ++ P.targets_text f ts)
+      → text_of (written_operands (map (typed_of structs f) os) ++ (comma ∷ written_targets (map (block_ref f) ts))) ≡ codes " " ++ (P.operands_text structs f os ++ codes ", " ++ P.targets_text f ts)
   branch_text os ts some leads =
-      joined (written_operands (map (typed_of f) os)) (comma ∷ written_targets (map (block_ref f) ts)) (codes " " ++ P.operands_text f os) (codes ", " ++ P.targets_text f ts) (operands_text os some) (ap (λ (t : Text). codes "," ++ t) (targets_text ts leads)) ∙ simp append_assoc
+      joined (written_operands (map (typed_of structs f) os)) (comma ∷ written_targets (map (block_ref f) ts)) (codes " " ++ P.operands_text structs f os) (codes ", " ++ P.targets_text f ts) (operands_text os some) (ap (λ (t : Text). codes "," ++ t) (targets_text ts leads)) ∙ simp append_assoc
 
   abbrev Names : Op → Option TypeTree → List Operand → List ℕ → Type 0
-  Names op w os ts = text_of (written_names op (row_of f (record { op = op; written = w; operands = os; targets = ts }))) ≡ codes " " ++ P.row_names f op w os ts
+  Names op w os ts = text_of (written_names op (row_of structs f (record { op = op; written = w; operands = os; targets = ts }))) ≡ codes " " ++ P.row_names structs f op w os ts
 
   pub names_text : (op : Op) (v : Bool) (w : Option TypeTree) (os : List Operand) (ts : List ℕ) → length os ≡ operand_count (rule_of op).takes v → length ts ≡ target_count (rule_of op).leads → has_names op ≡ true → Names op w os ts
   names_text (O.Add flags) v w os ts count leads named = most_text w os (omega (arith, count))

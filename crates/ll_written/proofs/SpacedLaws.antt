@@ -54,7 +54,7 @@ names_free O.Freeze r h = most_free r h
 
 entry_free : (τ : TypeTree) (e : Incoming) → IsIncoming τ e → AreFree (W.written_entry e)
 unfolding sign_at
-entry_free τ e h = then_free (sign_free T.OpenBracket 91 refl) (then_free (said_free τ e.said h.said) (then_free comma_free (then_free (apart_free T.Local e.block h.block) (one_free (sign_free T.CloseBracket 93 refl)))))
+entry_free τ e h = then_free (sign_free T.OpenBracket 91 refl) (both_free (W.written_said e.said) (comma ∷ apart T.Local e.block ∷ apart T.CloseBracket (codes "]") ∷ []) (said_free τ e.said h.said) (then_free comma_free (then_free (apart_free T.Local e.block h.block) (one_free (sign_free T.CloseBracket 93 refl)))))
 
 entries_free : (τ : TypeTree) (es : List Incoming) → AllByRecursion (IsIncoming τ) es → AreFree (W.written_entries es)
 entries_free τ [] all = none_free
@@ -97,7 +97,7 @@ params_spaced : (ps : List Param) (rest : List Spaced) → AllByRecursion IsPara
 params_spaced [] rest all free = free.behind (Some T.OpenParen)
 params_spaced (p ∷ ps) rest all free =
     let paren = Some T.OpenParen in
-    let first = spaced_then paren (W.written_type [] p.type) (W.written_name p.name) (type_opened p.type all.0.type) (name_free p.name all.0.name) in
+    let first = spaced_then paren (W.written_type [] p.type) (W.written_name p.name) (type_opened T.OpenParen (λ c. refl) p.type all.0.type) (name_free p.name all.0.name) in
     spaced_then paren (W.written_params (p ∷ ps)) rest (spaced_then paren (W.written_param [] p) (flat_map W.next_param ps) first (each_free IsParam W.next_param next_param_free ps all.1)) free
 
 -- what stands behind the name of a function

@@ -1,92 +1,41 @@
 -- The tokens of what a text says are well spaced.
-use Rattle.std.proofs.Common.{◌≡◌, ◌≤◌, ◌<◌, ◌^◌, ℕ, zero, suc, Bool, true, false, cond, if◌then◌else◌, ◌==◌, ◌-◌, nat_le, nat_lt, List, [], ◌∷◌, Option, Some, None, codes, refl, sym, subst, arith}
-use Rattle.std.specs.Prelude.{decimal, IfSome}
+use Rattle.std.proofs.Common.{◌≡◌, ℕ, Bool, true, false, List, [], ◌∷◌, Option, Some, None, codes, refl}
+use Rattle.std.specs.Prelude.{IfSome}
 use Rattle.std.specs.List.{flat_map, AllByRecursion}
-use Rattle.std.proofs.lemmas.Bool.{ltb-false, leb-true, eqb-true}
-use Rattle.std.proofs.Math.Nat.{pow-le-pow_right}
 use Rattle.kinds.specs.declared.op.LLVMIntPredicate.{LLVMIntPredicate}
 use Rattle.kinds.specs.declared.op.LLVMIntPredicate.TheVariants as I
 use Rattle.kinds.specs.declared.op.OverflowFlags.{OverflowFlags}
 use Rattle.kinds.specs.declared.op.Op.{Op}
 use Rattle.kinds.specs.declared.op.Op.TheVariants as O
-use Rattle.kinds.specs.declared.fill.Fill.{Fill}
-use Rattle.kinds.specs.declared.fill.Fill.TheVariants as Z
-use Rattle.kinds.specs.Fitting.{is_pointer}
-use Rattle.kinds.specs.Types.{TypeTree, shape}
-use Rattle.llvm_core.specs.Parts.{IsIntAt}
+use Rattle.kinds.specs.Types.{TypeTree}
 use Rattle.ll_lines.specs.Lines as L
 use Rattle.ll_lines.specs.Lines.{Text, Said, Typed}
-use Rattle.ll_spacing.specs.Forms.{IsText, is_word}
+use Rattle.ll_spacing.specs.Forms.{is_word}
 use Rattle.ll_spacing.specs.Spacing.{AreBlanks}
-use Rattle.std.proofs.lemmas.Nat.{pow_pos}
-use Rattle.ll_tokens.specs.declared.kinds.Kind.{Kind}
 use Rattle.ll_tokens.specs.declared.kinds.Kind.TheVariants as T
-use Rattle.ll_written.specs.Printing.{int_text, filled_text, signed_text, predicate_text}
+use Rattle.ll_written.specs.Printing.{predicate_text}
 use Rattle.ll_written.specs.Written as W
 use Rattle.ll_written.specs.Written.{token, word}
-use Rattle.ll_written.specs.Writable.{IsSayableType, an_int, a_filled, IsLocal, IsSaidOf, IsTyped}
+use Rattle.ll_written.specs.Writable.{IsSayableType, IsLocal, IsSaidOf, IsTyped}
 use Rattle.ll_written.proofs.FreeLaws.{AreFree, IsFree, none_free, then_free, one_free, both_free, each_free, gap_free, apart_free, word_whole, word_free, comma_free}
-use Rattle.ll_written.proofs.NumberForms.{wide_text, minus_text}
+use Rattle.ll_written.proofs.ConstTokens.{const_free}
 use Rattle.ll_written.proofs.TypeTokens.{type_free}
 
 -- ---- values
 
-signed_by : (w n : ℕ) (b : Bool) → w ≤ 128 → IsIntAt w n → nat_lt n (2 ^ (w - 1)) ≡ b → IsText T.Int (cond b (decimal n) (45 ∷ decimal (2 ^ w - n)))
-signed_by w n true most fits e = wide_text n fits.1
-signed_by w n false most fits e =
-    let high : 2 ^ (w - 1) ≤ n = ltb-false n (2 ^ (w - 1)) e in
-    let pos = pow_pos (w - 1) in
-    let wide : 2 ^ w ≤ 2 ^ 128 = pow-le-pow_right {n = 2} (omega arith) {i = w} {j = 128} most in
-    minus_text (2 ^ w - n) (omega (arith, high, pos, wide))
-
-bit_text : (n : ℕ) → n < 2 → IsText T.Word (int_text 1 n)
-bit_text zero h = IsText.word (codes "false") refl
-bit_text (suc zero) h = IsText.word (codes "true") refl
-bit_text (suc (suc n)) h = absurd (omega arith)
-
--- up to 128 bits with its sign, past that without
-many_by : (w n : ℕ) (b : Bool) → IsIntAt w n → (w == 1) ≡ false → nat_le w 128 ≡ b → IsText T.Int (int_text w n)
-many_by w n true fits e g =
-    let same : signed_text w n ≡ int_text w n = rw (e, g) refl in
-    subst (λ (t : Text). IsText T.Int t) same (signed_by w n (nat_lt n (2 ^ (w - 1))) (leb-true w 128 g) fits refl)
-many_by w n false fits e g =
-    let same : decimal n ≡ int_text w n = rw (e, g) refl in
-    subst (λ (t : Text). IsText T.Int t) same (wide_text n fits.1)
-
-int_by : (w n : ℕ) (b : Bool) → IsIntAt w n → (w == 1) ≡ b → IsText (W.int_kind w) (int_text w n)
-int_by w n true fits e =
-    let one : 1 ≡ w = sym (eqb-true w 1 e) in
-    let below = fits.0 in
-    let small : n < 2 = rw (← one) at below in
-    subst (λ (v : ℕ). IsText (W.int_kind v) (int_text v n)) one (bit_text n small)
-int_by w n false fits e =
-    let kind : T.Int ≡ W.int_kind w = rw e refl in
-    subst (λ (k : Kind). IsText k (int_text w n)) kind (many_by w n (nat_le w 128) fits e refl)
-
--- a constant of any type is a word
-filled_word : (fill : Fill) (τ : TypeTree) → IsText T.Word (filled_text fill τ)
-filled_word Z.Zero τ = by (is_pointer (shape τ))
-  where
-    by : (b : Bool) → IsText T.Word (if b then codes "null" else codes "zeroinitializer")
-    by true = IsText.word (codes "null") refl
-    by false = IsText.word (codes "zeroinitializer") refl
-filled_word Z.Undef τ = IsText.word (codes "undef") refl
-filled_word Z.Poison τ = IsText.word (codes "poison") refl
-
-pub said_free : (τ : TypeTree) (s : Said) → IsSaidOf τ s → IsFree (W.written_said s)
-said_free τ (L.Local t) h = apart_free T.Local t h
-said_free τ (L.Const c) (an_int w n fits) = apart_free (W.int_kind w) (int_text w n) (int_by w n (w == 1) fits refl)
-said_free τ (L.Const c) (a_filled fill υ own) = apart_free T.Word (filled_text fill υ) (filled_word fill υ)
+pub said_free : (τ : TypeTree) (s : Said) → IsSaidOf τ s → AreFree (W.written_said s)
+said_free τ (L.Local t) h = one_free (apart_free T.Local t h)
+said_free τ (L.Const c) h = const_free τ c h
 
 pub typed_free : (x : Typed) → IsTyped x → AreFree (W.written_typed x)
-typed_free x h = both_free (W.written_type (codes " ") x.type) (W.written_said x.said ∷ []) (type_free x.type h.type) (one_free (said_free x.type x.said h.said))
+typed_free x h = both_free (W.written_type (codes " ") x.type) (W.written_said x.said) (type_free x.type h.type) (said_free x.type x.said h.said)
 
 -- ---- rows
 
 pub operands_free : (xs : List Typed) → AllByRecursion IsTyped xs → AreFree (W.written_operands xs)
 operands_free [] all = none_free
 operands_free (x ∷ xs) all =
-    both_free (W.written_typed x) (flat_map W.next_said xs) (typed_free x all.0) (each_free IsTyped W.next_said (λ y h. then_free comma_free (one_free (said_free y.type y.said h.said))) xs all.1)
+    both_free (W.written_typed x) (flat_map W.next_said xs) (typed_free x all.0) (each_free IsTyped W.next_said (λ y h. then_free comma_free (said_free y.type y.said h.said)) xs all.1)
 
 pub values_free : (xs : List Typed) → AllByRecursion IsTyped xs → AreFree (W.written_values xs)
 values_free [] all = none_free

@@ -36,7 +36,7 @@ use Rattle.ll_written.specs.Written.{token, close, written_space, written_type, 
 use Rattle.ll_written.specs.Writable.{IsSayableType, IsSayableResult, IsBody}
 use Rattle.ll_written.proofs.Productions as P
 use Rattle.ll_written.proofs.Productions.{Reads}
-use Rattle.ll_written.proofs.FlatLaws.{floating_flat, other_flat, flat_word, flat_says, flat_solid}
+use Rattle.ll_written.proofs.FlatLaws.{floating_flat, other_flat, flat_word, flat_says, flat_solid, flat_lane}
 use Rattle.ll_written.proofs.FreeLaws.{AreFree, IsFree, spaced_then, none_free, then_free, one_free, both_free, apart_free, word_free, sign_free, sign_close, comma_free}
 use Rattle.ll_written.proofs.PartForms.{IsCounted, AreFields, array_parts, vector_parts, struct_parts}
 use Rattle.ll_written.proofs.NameForms.{struct_form}
@@ -162,6 +162,19 @@ solid_says b (StructType S.Packed ts) h = let k = struct_parts S.Packed ts h in 
 solid_says b (NamedType n) h = P.solid_named b (local (printed_name n)) (named_again n h.names)
 solid_says b τ h = absurd (let k = first_class_value τ h.type in cc)
 
+-- a lane of a vector is flat: a line for each kind
+pub lane_says : (b : Text) (τ : TypeTree) → IsSayableType τ → is_vector_of 1 (shape τ) ≡ true → Reads N.flat (TypeV τ) (written_type b τ)
+unfolding written_type
+lane_says b (IntType n) h lane = let k = first_class_int n h.type in P.flat_int b (105 ∷ decimal n) (int_class n k.1) (ap (option_map TypeV) (int_width n k.0 k.1))
+lane_says b (PointerType n) h lane = P.flat_pointer b (space_says n (first_class_pointer n h.type)) (pointer_again n)
+lane_says b (FloatingType f) h lane = flat_lane b (FloatingType f) (floating_flat f)
+lane_says b (RefusedType o) h lane = flat_lane b (RefusedType o) (other_flat o)
+lane_says b (ArrayType n t) h lane = absurd cc
+lane_says b (VectorType k n t) h lane = absurd cc
+lane_says b (StructType l ts) h lane = absurd cc
+lane_says b (NamedType n) h lane = absurd cc
+lane_says b τ h lane = absurd (let k = first_class_value τ h.type in cc)
+
 -- ---- their spacing
 
 -- a token may stand there, whatever its text: with that before it, and behind a token of that kind, or at the front
@@ -174,7 +187,7 @@ behind_blank None = record { blanks = refl; apart = λ t. tt }
 behind_blank (Some k) = record { blanks = refl; apart = λ t. blank_follows k 32 refl }
 
 -- a sign after which any token may stand
-abbrev IsOpen : Kind → Type 0
+abbrev pub IsOpen : Kind → Type 0
 IsOpen k = (b : ℕ) → goes_on k b ≡ false
 
 open_apart : (k : Kind) → IsOpen k → (t : Text) → IsApart (Some k) t
@@ -195,11 +208,11 @@ space_spaced last (suc n) h =
     (word_free (codes "addrspace") refl last, (sign_close T.OpenParen 40 refl (λ j. plain_follows j 40 refl) (Some T.Word), (number, (sign_close T.CloseParen 41 refl (λ j. plain_follows j 41 refl) (Some T.Int), tt))))
 
 -- signs that stand directly behind any token
-bracket_close : IsFree (close T.CloseBracket (codes "]"))
+pub bracket_close : IsFree (close T.CloseBracket (codes "]"))
 unfolding sign_at
 bracket_close = sign_close T.CloseBracket 93 refl (λ j. plain_follows j 93 refl)
 
-angle_close : IsFree (close T.Greater (codes ">"))
+pub angle_close : IsFree (close T.Greater (codes ">"))
 unfolding sign_at
 angle_close = sign_close T.Greater 62 refl (λ j. plain_follows j 62 refl)
 
@@ -282,9 +295,9 @@ result_free τ h = record { behind = λ last. result_spaced last (codes " ") τ 
 pub type_free : (τ : TypeTree) → IsSayableType τ → AreFree (written_type (codes " ") τ)
 type_free τ h = result_free τ (sayable_if τ h)
 
--- and they may stand directly behind the sign that opens parameters
-pub type_opened : (τ : TypeTree) → IsSayableType τ → AreSpacedBehind (Some T.OpenParen) (written_type [] τ)
-type_opened τ h = result_spaced (Some T.OpenParen) [] τ (behind_open T.OpenParen (λ c. refl)) (sayable_if τ h)
+-- and they may stand directly behind a sign after which any token may
+pub type_opened : (k : Kind) → IsOpen k → (τ : TypeTree) → IsSayableType τ → AreSpacedBehind (Some k) (written_type [] τ)
+type_opened k opens τ h = result_spaced (Some k) [] τ (behind_open k opens) (sayable_if τ h)
 
 -- ---- their text
 

@@ -4,7 +4,7 @@ use Rattle.std.specs.Prelude.{unwrap_or}
 use Rattle.ll_classes.specs.Classes.{other_word}
 use Rattle.ll_classes.specs.Llvm.{llvm_class, llvm_rows}
 use Rattle.ll_classes.specs.Words.{class_among}
-use Rattle.ll_tokens.specs.declared.kinds.Kind.TheVariants.{Word, Global, Local, Label, Int, Str, Equals, Comma, OpenParen, CloseParen, OpenBracket, CloseBracket, OpenBrace, CloseBrace, Less, Greater}
+use Rattle.ll_tokens.specs.declared.kinds.Kind.TheVariants.{Word, Global, Local, Label, Int, Str, CStr, Equals, Comma, OpenParen, CloseParen, OpenBracket, CloseBracket, OpenBrace, CloseBrace, Less, Greater}
 use Rattle.ll_lines.specs.Lines.{Text}
 
 abbrev pub inttype : ℕ
@@ -32,6 +32,10 @@ kind_int t = refl
 pub kind_str : (t : Text) → llvm_class Str t ≡ 4
 unfolding llvm_class
 kind_str t = refl
+
+pub kind_cstr : (t : Text) → llvm_class CStr t ≡ 5
+unfolding llvm_class
+kind_cstr t = refl
 
 pub sign_equals : llvm_class Equals (codes "=") ≡ 43
 unfolding llvm_class
@@ -128,6 +132,9 @@ word_ret = word_class (codes "ret") 107 refl
 
 pub word_source_filename : llvm_class Word (codes "source_filename") ≡ 111
 word_source_filename = word_class (codes "source_filename") 111 refl
+
+pub word_splat : llvm_class Word (codes "splat") ≡ 112
+word_splat = word_class (codes "splat") 112 refl
 
 pub word_to : llvm_class Word (codes "to") ≡ 117
 word_to = word_class (codes "to") 117 refl

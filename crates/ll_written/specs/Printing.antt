@@ -16,12 +16,16 @@ use Rattle.kinds.specs.declared.types.VectorTypeKind.{VectorTypeKind}
 use Rattle.kinds.specs.declared.types.VectorTypeKind.TheVariants as V
 use Rattle.kinds.specs.declared.types.StructLayout.{StructLayout}
 use Rattle.kinds.specs.declared.types.StructLayout.TheVariants as L
-use Rattle.llvm_core.specs.Data.{TypeTree, VoidType, IntType, PointerType, FloatingType, RefusedType, ArrayType, VectorType, StructType, NamedType, FunctionType, TypeTrees, NoTypes, ThenType, ConstTree, IntConst, FilledConst, BytesConst, ListConst, SplatConst, PlaceholderConst, Operand, Constant, Parameter, Result, Instruction, Phi, RowData, Applied, Placed, Block, Function, StructBody, Struct, ModuleData, operand_type, param_type}
+use Rattle.llvm_core.specs.Data.{TypeTree, VoidType, IntType, PointerType, FloatingType, RefusedType, ArrayType, VectorType, StructType, NamedType, FunctionType, TypeTrees, NoTypes, ThenType, ConstTree, IntConst, FilledConst, BytesConst, ListConst, SplatConst, PlaceholderConst, Operand, Constant, Parameter, Result, Instruction, Phi, RowData, Applied, Placed, Block, Function, StructBody, Struct, ModuleData, const_type, operand_type, param_type}
 use Rattle.kinds.specs.Fitting.{is_pointer}
 use Rattle.kinds.specs.Types.{result_of, shape}
 use Rattle.kinds.specs.Held.{is_void}
 use Rattle.ll_literals.specs.Text.{Text}
 use Rattle.ll_literals.specs.Names.{global, local, printed_name, printed_text}
+use Rattle.ll_lines.specs.declared.lines.Brackets.{Brackets}
+use Rattle.ll_lines.specs.declared.lines.Brackets.TheVariants as B
+use Rattle.ll_lines.specs.Lines.{SaidConst, Plain, Chars, Listed, Splat, SaidConsts, NoneSaid, ThenSaid}
+use Rattle.ll_said.specs.Said.{said_const}
 use Rattle.ll_said.specs.Naming.{ParamAt, ResultOf, local_text, result_name, block_ref}
 
 -- ---- types and constants
@@ -109,27 +113,66 @@ filled_text Z.Zero type = if is_pointer (shape type) then codes "null" else code
 filled_text Z.Undef type = codes "undef"
 filled_text Z.Poison type = codes "poison"
 
--- a constant without its type, a line for each kind; a checked module has no placeholder, and bytes, lists and splats have no
--- text yet: a module of the form has none
-abbrev pub const_text : ConstTree → Text
-const_text (IntConst w v) = int_text w v
-const_text (FilledConst fill type) = filled_text fill type
-const_text (BytesConst bytes) = []
-const_text (ListConst type elements) = []
-const_text (SplatConst type element) = []
-const_text (PlaceholderConst number type) = []
+-- a constant of one word, a line for each kind; a checked module has no placeholder, and the others are said by their parts
+abbrev pub plain_text : ConstTree → Text
+plain_text (IntConst w v) = int_text w v
+plain_text (FilledConst fill type) = filled_text fill type
+plain_text (BytesConst bytes) = []
+plain_text (ListConst type elements) = []
+plain_text (SplatConst type element) = []
+plain_text (PlaceholderConst number type) = []
+
+-- the type that stands before a written constant
+abbrev pub said_type : SaidConst → TypeTree
+said_type (Plain c) = const_type c
+said_type (Chars τ t) = τ
+said_type (Listed τ brackets cs) = τ
+said_type (Splat τ c) = τ
+
+-- what stands before the elements of a constant, and behind them
+abbrev pub brackets_open : Brackets → Text
+brackets_open B.Array = codes "["
+brackets_open B.Vector = codes "<"
+brackets_open (B.Struct layout) = struct_open layout ++ codes " "
+
+abbrev pub brackets_close : Brackets → Text
+brackets_close B.Array = codes "]"
+brackets_close B.Vector = codes ">"
+brackets_close (B.Struct layout) = codes " " ++ struct_close layout
+
+abbrev mutual
+  -- a written constant without its type
+  pub said_text : SaidConst → Text
+  said_text (Plain c) = plain_text c
+  said_text (Chars τ t) = t
+  said_text (Listed τ brackets cs) = brackets_open brackets ++ elements_text cs ++ brackets_close brackets
+  said_text (Splat τ c) = codes "splat (" ++ type_text (said_type c) ++ codes " " ++ said_text c ++ codes ")"
+
+  -- elements, each behind its type
+  pub elements_text : SaidConsts → Text
+  elements_text NoneSaid = []
+  elements_text (ThenSaid c cs) = type_text (said_type c) ++ codes " " ++ said_text c ++ next_elements_text cs
+
+  -- elements behind the first
+  pub next_elements_text : SaidConsts → Text
+  next_elements_text NoneSaid = []
+  next_elements_text (ThenSaid c cs) = codes ", " ++ type_text (said_type c) ++ codes " " ++ said_text c ++ next_elements_text cs
+
+-- a constant without its type, of a module with these structs
+abbrev pub const_text : List Struct → ConstTree → Text
+const_text structs c = said_text (said_const structs c)
 
 -- ---- instructions
 
 -- an operand without its type, a line for each kind
-abbrev pub operand_text : Function → Operand → Text
-operand_text f (Constant c) = const_text c
-operand_text f (Parameter g i) = local_text f (slice_index_or f.params i []) (ParamAt i)
-operand_text f (Result n) = local_text f (result_name f n) (ResultOf n)
+abbrev pub operand_text : List Struct → Function → Operand → Text
+operand_text structs f (Constant c) = const_text structs c
+operand_text structs f (Parameter g i) = local_text f (slice_index_or f.params i []) (ParamAt i)
+operand_text structs f (Result n) = local_text f (result_name f n) (ResultOf n)
 
 -- a type and an operand of it
-abbrev pub value_text : Function → Operand → Text
-value_text f o = type_text (operand_type f o) ++ codes " " ++ operand_text f o
+abbrev pub value_text : List Struct → Function → Operand → Text
+value_text structs f o = type_text (operand_type f o) ++ codes " " ++ operand_text structs f o
 
 -- a word and a blank, where it is set
 abbrev pub flag_text : Text → Bool → Text
@@ -149,27 +192,27 @@ predicate_text P.LLVMIntSLT = codes "slt"
 predicate_text P.LLVMIntSLE = codes "sle"
 
 -- an entry of a phi
-abbrev pub entry_text : Function → Operand × ℕ → Text
-entry_text f e = codes "[ " ++ operand_text f e.0 ++ codes ", " ++ block_ref f e.1 ++ codes " ]"
+abbrev pub entry_text : List Struct → Function → Operand × ℕ → Text
+entry_text structs f e = codes "[ " ++ operand_text structs f e.0 ++ codes ", " ++ block_ref f e.1 ++ codes " ]"
 
 -- entries behind the first
-abbrev pub next_entry_text : Function → Operand × ℕ → Text
-next_entry_text f e = codes ", " ++ entry_text f e
+abbrev pub next_entry_text : List Struct → Function → Operand × ℕ → Text
+next_entry_text structs f e = codes ", " ++ entry_text structs f e
 
 -- entries, of which there is one at least in a checked module
-abbrev pub entries_text : Function → List (Operand × ℕ) → Text
-entries_text f [] = []
-entries_text f (e ∷ es) = entry_text f e ++ flat_map (next_entry_text f) es
+abbrev pub entries_text : List Struct → Function → List (Operand × ℕ) → Text
+entries_text structs f [] = []
+entries_text structs f (e ∷ es) = entry_text structs f e ++ flat_map (next_entry_text structs f) es
 
 -- operands, of which the first stands behind its type
-abbrev pub operands_text : Function → List Operand → Text
-operands_text f [] = []
-operands_text f (o ∷ os) = value_text f o ++ flat_map (λ (x : Operand). codes ", " ++ operand_text f x) os
+abbrev pub operands_text : List Struct → Function → List Operand → Text
+operands_text structs f [] = []
+operands_text structs f (o ∷ os) = value_text structs f o ++ flat_map (λ (x : Operand). codes ", " ++ operand_text structs f x) os
 
 -- what a return has
-abbrev pub returned_text : Function → List Operand → Text
-returned_text f [] = codes "void"
-returned_text f (o ∷ os) = operands_text f (o ∷ os)
+abbrev pub returned_text : List Struct → Function → List Operand → Text
+returned_text structs f [] = codes "void"
+returned_text structs f (o ∷ os) = operands_text structs f (o ∷ os)
 
 -- the blocks that a row leads to
 abbrev pub target_text : Function → ℕ → Text
@@ -180,9 +223,9 @@ targets_text f [] = []
 targets_text f (n ∷ ns) = target_text f n ++ flat_map (λ (x : ℕ). codes ", " ++ target_text f x) ns
 
 -- operands, each behind its type
-abbrev pub values_text : Function → List Operand → Text
-values_text f [] = []
-values_text f (o ∷ os) = value_text f o ++ flat_map (λ (x : Operand). codes ", " ++ value_text f x) os
+abbrev pub values_text : List Struct → Function → List Operand → Text
+values_text structs f [] = []
+values_text structs f (o ∷ os) = value_text structs f o ++ flat_map (λ (x : Operand). codes ", " ++ value_text structs f x) os
 
 -- the type that is written behind operands
 abbrev pub to_text : Option TypeTree → Text
@@ -220,45 +263,45 @@ row_head O.Ret = codes "ret "
 row_head O.Unreachable = codes "unreachable"
 
 -- what a row names, a line for each: most rows their operands, and behind them the type where one is written
-abbrev pub row_names : Function → Op → Option TypeTree → List Operand → List ℕ → Text
-row_names f (O.Add flags) written os ts = operands_text f os ++ to_text written
-row_names f (O.Sub flags) written os ts = operands_text f os ++ to_text written
-row_names f (O.Mul flags) written os ts = operands_text f os ++ to_text written
-row_names f (O.Shl flags) written os ts = operands_text f os ++ to_text written
-row_names f O.UDiv written os ts = operands_text f os ++ to_text written
-row_names f O.SDiv written os ts = operands_text f os ++ to_text written
-row_names f O.URem written os ts = operands_text f os ++ to_text written
-row_names f O.SRem written os ts = operands_text f os ++ to_text written
-row_names f O.LShr written os ts = operands_text f os ++ to_text written
-row_names f O.AShr written os ts = operands_text f os ++ to_text written
-row_names f O.And written os ts = operands_text f os ++ to_text written
-row_names f O.Or written os ts = operands_text f os ++ to_text written
-row_names f O.Xor written os ts = operands_text f os ++ to_text written
-row_names f (O.ICmp predicate) written os ts = operands_text f os ++ to_text written
-row_names f O.Trunc written os ts = operands_text f os ++ to_text written
-row_names f O.SExt written os ts = operands_text f os ++ to_text written
-row_names f (O.ZExt nneg) written os ts = operands_text f os ++ to_text written
-row_names f O.Select written os ts = values_text f os
-row_names f O.Freeze written os ts = operands_text f os ++ to_text written
-row_names f O.Br written os ts = targets_text f ts
-row_names f O.CondBr written os ts = operands_text f os ++ codes ", " ++ targets_text f ts
-row_names f O.Ret written os ts = returned_text f os
-row_names f O.Unreachable written os ts = []
+abbrev pub row_names : List Struct → Function → Op → Option TypeTree → List Operand → List ℕ → Text
+row_names structs f (O.Add flags) written os ts = operands_text structs f os ++ to_text written
+row_names structs f (O.Sub flags) written os ts = operands_text structs f os ++ to_text written
+row_names structs f (O.Mul flags) written os ts = operands_text structs f os ++ to_text written
+row_names structs f (O.Shl flags) written os ts = operands_text structs f os ++ to_text written
+row_names structs f O.UDiv written os ts = operands_text structs f os ++ to_text written
+row_names structs f O.SDiv written os ts = operands_text structs f os ++ to_text written
+row_names structs f O.URem written os ts = operands_text structs f os ++ to_text written
+row_names structs f O.SRem written os ts = operands_text structs f os ++ to_text written
+row_names structs f O.LShr written os ts = operands_text structs f os ++ to_text written
+row_names structs f O.AShr written os ts = operands_text structs f os ++ to_text written
+row_names structs f O.And written os ts = operands_text structs f os ++ to_text written
+row_names structs f O.Or written os ts = operands_text structs f os ++ to_text written
+row_names structs f O.Xor written os ts = operands_text structs f os ++ to_text written
+row_names structs f (O.ICmp predicate) written os ts = operands_text structs f os ++ to_text written
+row_names structs f O.Trunc written os ts = operands_text structs f os ++ to_text written
+row_names structs f O.SExt written os ts = operands_text structs f os ++ to_text written
+row_names structs f (O.ZExt nneg) written os ts = operands_text structs f os ++ to_text written
+row_names structs f O.Select written os ts = values_text structs f os
+row_names structs f O.Freeze written os ts = operands_text structs f os ++ to_text written
+row_names structs f O.Br written os ts = targets_text f ts
+row_names structs f O.CondBr written os ts = operands_text structs f os ++ codes ", " ++ targets_text f ts
+row_names structs f O.Ret written os ts = returned_text structs f os
+row_names structs f O.Unreachable written os ts = []
 
-abbrev pub row_text : Function → RowData → Text
-row_text f r = row_head r.op ++ row_names f r.op r.written r.operands r.targets
+abbrev pub row_text : List Struct → Function → RowData → Text
+row_text structs f r = row_head r.op ++ row_names structs f r.op r.written r.operands r.targets
 
 -- an instruction whose result has that type
-abbrev pub instruction_text : Function → TypeTree → Instruction → Text
-instruction_text f type (Phi entries) = codes "phi " ++ type_text type ++ codes " " ++ entries_text f entries
-instruction_text f type (Applied r) = row_text f r
+abbrev pub instruction_text : List Struct → Function → TypeTree → Instruction → Text
+instruction_text structs f type (Phi entries) = codes "phi " ++ type_text type ++ codes " " ++ entries_text structs f entries
+instruction_text structs f type (Applied r) = row_text structs f r
 
 -- the result, where there is one
 abbrev pub gives_text : Function → TypeTree → Placed → Text
 gives_text f type p = if is_void type then [] else local_text f p.name (ResultOf p.number) ++ codes " = "
 
-abbrev pub placed_text : Function → Placed → Text
-placed_text f p = codes "  " ++ gives_text f p.type p ++ instruction_text f p.type p.instruction ++ codes "\n"
+abbrev pub placed_text : List Struct → Function → Placed → Text
+placed_text structs f p = codes "  " ++ gives_text f p.type p ++ instruction_text structs f p.type p.instruction ++ codes "\n"
 
 -- ---- functions and modules
 
@@ -267,8 +310,8 @@ abbrev pub label_text : Function → Block → Text
 label_text f b = drop 1 (block_ref f b.number) ++ codes ":\n"
 
 -- the lines of a block behind the first, after a blank line
-abbrev pub block_text : Function → Block → Text
-block_text f b = codes "\n" ++ label_text f b ++ flat_map (placed_text f) b.instructions
+abbrev pub block_text : List Struct → Function → Block → Text
+block_text structs f b = codes "\n" ++ label_text f b ++ flat_map (placed_text structs f) b.instructions
 
 -- the label line of the entry, which an unnamed one lacks
 abbrev pub entry_label_text : Function → Block → Text → Text
@@ -276,9 +319,9 @@ entry_label_text f b [] = []
 entry_label_text f b (c ∷ cs) = label_text f b
 
 -- the lines of the blocks of a function
-abbrev pub blocks_text : Function → List Block → Text
-blocks_text f [] = []
-blocks_text f (b ∷ bs) = entry_label_text f b b.name ++ flat_map (placed_text f) b.instructions ++ flat_map (block_text f) bs
+abbrev pub blocks_text : List Struct → Function → List Block → Text
+blocks_text structs f [] = []
+blocks_text structs f (b ∷ bs) = entry_label_text f b b.name ++ flat_map (placed_text structs f) b.instructions ++ flat_map (block_text structs f) bs
 
 -- a comma and a blank between parameters
 abbrev pub comma_text : (place : ℕ) → Text
@@ -295,9 +338,9 @@ abbrev pub head_text : Function → Text
 head_text f = codes "\ndefine " ++ type_text (result_of f.type) ++ codes " " ++ global (printed_name f.name) ++ codes "("
 
 -- a function, after a blank line
-abbrev pub function_text : Function → Text
-function_text f =
-    head_text f ++ params_text f 0 f.params ++ codes ") {\n" ++ blocks_text f f.blocks ++ codes "}\n"
+abbrev pub function_text : List Struct → Function → Text
+function_text structs f =
+    head_text f ++ params_text f 0 f.params ++ codes ") {\n" ++ blocks_text structs f f.blocks ++ codes "}\n"
 
 -- the line of a module's name, none for an empty name
 abbrev pub source_text : Text → Text
@@ -318,4 +361,4 @@ structs_text [] = []
 structs_text (s ∷ ss) = codes "\n" ++ struct_text s ++ flat_map struct_text ss
 
 abbrev pub module_text : ModuleData → Text
-module_text d = source_text d.name ++ structs_text d.structs ++ flat_map function_text d.functions
+module_text d = source_text d.name ++ structs_text d.structs ++ flat_map (function_text d.structs) d.functions

@@ -64,6 +64,9 @@ type = 60
 abbrev pub solid : ℕ
 solid = 61
 
+abbrev pub flat : ℕ
+flat = 62
+
 abbrev pub angle_type : ℕ
 angle_type = 63
 
@@ -72,6 +75,30 @@ types = 64
 
 abbrev pub more_types : ℕ
 more_types = 65
+
+abbrev pub tconst : ℕ
+tconst = 71
+
+abbrev pub const : ℕ
+const = 72
+
+abbrev pub const_angle : ℕ
+const_angle = 73
+
+abbrev pub const_brace : ℕ
+const_brace = 74
+
+abbrev pub const_empty : ℕ
+const_empty = 75
+
+abbrev pub const_braced : ℕ
+const_braced = 76
+
+abbrev pub tconsts : ℕ
+tconsts = 79
+
+abbrev pub more_tconsts : ℕ
+more_tconsts = 80
 
 abbrev pub inst : ℕ
 inst = 82

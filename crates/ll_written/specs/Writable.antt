@@ -1,5 +1,5 @@
 -- Files that their text says: what is asked of each part.
-use Rattle.std.specs.Prelude.{◌≡◌, ℕ, Bool, true, ◌&&◌, [], length, map, IfSome}
+use Rattle.std.specs.Prelude.{◌≡◌, ℕ, Bool, true, false, ◌&&◌, [], length, map, IfSome}
 use Rattle.std.specs.List.{AllByRecursion}
 use Rattle.kinds.specs.Rules.{target_count, operand_count}
 use Rattle.kinds.specs.Table.{rule_of}
@@ -10,12 +10,16 @@ use Rattle.kinds.specs.Names.{is_good_name}
 use Rattle.kinds.specs.Typing.{fits_trees}
 use Rattle.kinds.specs.declared.fill.Fill.{Fill}
 use Rattle.kinds.specs.Fill.{is_own_fill}
+use Rattle.kinds.specs.Fitting.{is_vector_of}
 use Rattle.llvm_core.specs.Parts.{IsIntAt}
 use Rattle.llvm_core.specs.Data.{ConstTree, IntConst, FilledConst}
 use Rattle.ll_tokens.specs.declared.kinds.Kind.TheVariants as K
+use Rattle.ll_lines.specs.declared.lines.Brackets.{Brackets}
+use Rattle.ll_lines.specs.declared.lines.Brackets.TheVariants as B
 use Rattle.ll_lines.specs.Lines as L
-use Rattle.ll_lines.specs.Lines.{Text, Said, Typed, RowLine, Incoming, Inst, Line, Part, Param, Function, StructLine, File}
+use Rattle.ll_lines.specs.Lines.{Text, SaidConst, SaidConsts, Said, Typed, RowLine, Incoming, Inst, Line, Part, Param, Function, StructLine, File}
 use Rattle.ll_spacing.specs.Forms.{IsText}
+use Rattle.ll_written.specs.Printing.{said_type}
 
 -- ---- types
 
@@ -45,7 +49,7 @@ pub record IsSayableResult (τ : TypeTree) : Type 0 where
 
 -- ---- values
 
--- a constant of one form of a type: an integer, or zero, undef or poison
+-- a constant of one word of a type: an integer, or zero, undef or poison
 pub data IsConstOf : TypeTree → ConstTree → Type 0 where
   an_int : (w n : ℕ) → IsIntAt w n → IsConstOf (IntType w) (IntConst w n)
   a_filled : (fill : Fill) (τ : TypeTree) → is_own_fill fill (shape τ) ≡ true → IsConstOf τ (FilledConst fill τ)
@@ -53,9 +57,37 @@ pub data IsConstOf : TypeTree → ConstTree → Type 0 where
 abbrev pub IsLocal : Text → Type 0
 IsLocal t = IsText K.Local t
 
+-- there is one, and a vector may have such
+abbrev pub begin_with_lane : SaidConsts → Bool
+begin_with_lane L.NoneSaid = false
+begin_with_lane (L.ThenSaid c cs) = is_vector_of 1 (shape (said_type c))
+
+-- the elements of a vector begin so
+abbrev pub HasLane : Brackets → SaidConsts → Type 0
+HasLane B.Array cs = Unit {0}
+HasLane B.Vector cs = begin_with_lane cs ≡ true
+HasLane (B.Struct layout) cs = Unit {0}
+
+abbrev mutual
+  -- a written constant of a type; whether its elements are those of the type is not asked
+  pub IsSaidConst : TypeTree → SaidConst → Type 0
+  IsSaidConst τ (L.Plain c) = IsConstOf τ c
+  IsSaidConst τ (L.Chars υ t) = (υ ≡ τ) × IsText K.CStr t
+  IsSaidConst τ (L.Listed υ brackets cs) = (υ ≡ τ) × HasLane brackets cs × AreElements cs
+  IsSaidConst τ (L.Splat υ c) = (υ ≡ τ) × IsSayableType (said_type c) × IsSaidConst (said_type c) c
+
+  -- constants, each behind its type
+  pub AreElements : SaidConsts → Type 0
+  AreElements L.NoneSaid = Unit {0}
+  AreElements (L.ThenSaid c cs) = (IsSayableType (said_type c) × IsSaidConst (said_type c) c) × AreElements cs
+
+-- a constant behind its type
+abbrev pub IsElement : SaidConst → Type 0
+IsElement c = IsSayableType (said_type c) × IsSaidConst (said_type c) c
+
 abbrev pub IsSaidOf : TypeTree → Said → Type 0
 IsSaidOf τ (L.Local t) = IsLocal t
-IsSaidOf τ (L.Const c) = IsConstOf τ c
+IsSaidOf τ (L.Const c) = IsSaidConst τ c
 
 pub record IsTyped (x : Typed) : Type 0 where
   pub type : IsSayableType x.type

@@ -11,10 +11,11 @@ use Rattle.kinds.specs.Structs.{StructBody}
 use Rattle.llvm_core.specs.Data.{ConstTree, IntConst, FilledConst, BytesConst, ListConst, SplatConst, PlaceholderConst}
 use Rattle.ll_tokens.specs.declared.kinds.Kind.{Kind}
 use Rattle.ll_tokens.specs.declared.kinds.Kind.TheVariants as K
+use Rattle.ll_lines.specs.declared.lines.Brackets.TheVariants as B
 use Rattle.ll_lines.specs.Lines as L
-use Rattle.ll_lines.specs.Lines.{Text, Said, Typed, RowLine, Incoming, Inst, Line, Part, Param, Function, StructLine, File}
+use Rattle.ll_lines.specs.Lines.{Text, SaidConst, SaidConsts, Said, Typed, RowLine, Incoming, Inst, Line, Part, Param, Function, StructLine, File}
 use Rattle.ll_spacing.specs.Spacing.{Spaced}
-use Rattle.ll_written.specs.Printing.{type_text, before_brace, const_text, predicate_text}
+use Rattle.ll_written.specs.Printing.{type_text, before_brace, plain_text, said_type, predicate_text}
 
 -- ---- tokens
 
@@ -73,7 +74,7 @@ unfoldable mutual
 abbrev pub int_kind : (width : ℕ) → Kind
 int_kind w = if w == 1 then K.Word else K.Int
 
--- bytes, lists and splats have no text yet, as placeholders have none; what is read has none of them
+-- those of one word or number; what is said by its parts is none
 abbrev pub const_kind : ConstTree → Kind
 const_kind (IntConst w n) = int_kind w
 const_kind (FilledConst fill τ) = K.Word
@@ -82,18 +83,46 @@ const_kind (ListConst τ elements) = K.Int
 const_kind (SplatConst τ element) = K.Int
 const_kind (PlaceholderConst n τ) = K.Int
 
-abbrev pub written_said : Said → Spaced
-written_said (L.Local t) = apart K.Local t
-written_said (L.Const c) = apart (const_kind c) (const_text c)
+-- what stands before the brace behind elements: behind none the blank before them too
+abbrev pub before_end : SaidConsts → Text
+before_end L.NoneSaid = codes "  "
+before_end (L.ThenSaid c cs) = codes " "
+
+-- The words are closed, as those of a type are.
+unfoldable mutual
+  -- a constant behind its type
+  pub written_const : SaidConst → List Spaced
+  written_const (L.Plain c) = apart (const_kind c) (plain_text c) ∷ []
+  written_const (L.Chars τ t) = apart K.CStr t ∷ []
+  written_const (L.Listed τ B.Array cs) = apart K.OpenBracket (codes "[") ∷ (written_elements [] cs ++ (close K.CloseBracket (codes "]") ∷ []))
+  written_const (L.Listed τ B.Vector cs) = apart K.Less (codes "<") ∷ (written_elements [] cs ++ (close K.Greater (codes ">") ∷ []))
+  written_const (L.Listed τ (B.Struct S.Unpacked) cs) = apart K.OpenBrace (codes "{") ∷ (written_elements (codes " ") cs ++ (token (before_end cs) K.CloseBrace (codes "}") ∷ []))
+  written_const (L.Listed τ (B.Struct S.Packed) cs) =
+      apart K.Less (codes "<") ∷ close K.OpenBrace (codes "{") ∷ (written_elements (codes " ") cs ++ (token (before_end cs) K.CloseBrace (codes "}") ∷ close K.Greater (codes ">") ∷ []))
+  written_const (L.Splat τ c) = word (codes "splat") ∷ apart K.OpenParen (codes "(") ∷ (written_type [] (said_type c) ++ (written_const c ++ (close K.CloseParen (codes ")") ∷ [])))
+
+  -- elements, each behind its type, the first of which stands behind that
+  pub written_elements : (before : Text) → SaidConsts → List Spaced
+  written_elements before L.NoneSaid = []
+  written_elements before (L.ThenSaid c cs) = written_type before (said_type c) ++ (written_const c ++ next_elements cs)
+
+  -- elements behind the first
+  pub next_elements : SaidConsts → List Spaced
+  next_elements L.NoneSaid = []
+  next_elements (L.ThenSaid c cs) = comma ∷ (written_type (codes " ") (said_type c) ++ (written_const c ++ next_elements cs))
+
+abbrev pub written_said : Said → List Spaced
+written_said (L.Local t) = apart K.Local t ∷ []
+written_said (L.Const c) = written_const c
 
 -- a type and a value of it
 abbrev pub written_typed : Typed → List Spaced
-written_typed x = written_type (codes " ") x.type ++ (written_said x.said ∷ [])
+written_typed x = written_type (codes " ") x.type ++ written_said x.said
 
 -- ---- instructions
 
 abbrev pub next_said : Typed → List Spaced
-next_said x = comma ∷ written_said x.said ∷ []
+next_said x = comma ∷ written_said x.said
 
 -- operands, of which the first stands behind its type
 abbrev pub written_operands : List Typed → List Spaced
@@ -176,7 +205,7 @@ abbrev pub written_row : (before : Text) → RowLine → List Spaced
 written_row before r = written_head before r.op ++ written_names r.op r
 
 abbrev pub written_entry : Incoming → List Spaced
-written_entry e = apart K.OpenBracket (codes "[") ∷ written_said e.said ∷ comma ∷ apart K.Local e.block ∷ apart K.CloseBracket (codes "]") ∷ []
+written_entry e = apart K.OpenBracket (codes "[") ∷ (written_said e.said ++ (comma ∷ apart K.Local e.block ∷ apart K.CloseBracket (codes "]") ∷ []))
 
 abbrev pub next_entry : Incoming → List Spaced
 next_entry e = comma ∷ written_entry e

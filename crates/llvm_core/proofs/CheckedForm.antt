@@ -36,6 +36,7 @@ use Rattle.llvm_core.proofs.FormValues.{IsNarrowHere}
 use Rattle.llvm_core.proofs.FormEdges.{StaysInside, count_present, same_edges}
 use Rattle.llvm_core.proofs.DistinctLaws.{each_function}
 use Rattle.llvm_core.proofs.FormNested.{all_allowed}
+use Rattle.llvm_core.proofs.FormElements.{all_made}
 use Rattle.llvm_core.proofs.CheckedInsts.{MeetsRules, form_of}
 
 -- ---- edges
@@ -203,4 +204,5 @@ module _ (m : Module) (sound : IsModule m) (checked : IsChecked m) where
     functions = each_function m IsFormFunction (λ f x at. function_form f x at (within_at (data_of m).functions IsNarrowFunction narrow.functions f (shown m f x) (function_at m f x at)));
     structs = narrow.structs;
     nested = all_allowed m sound struct_passes function_passes inst_passes;
+    elements = all_made m sound;
   }

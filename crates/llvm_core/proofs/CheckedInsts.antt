@@ -75,7 +75,7 @@ module _ (m : Module) (f : ℕ) (x : FunctionData) (sound : IsModule m) (at : sl
       let h = value_typed m f x sound at v here inside in
       let same : h.type ≡ t = same_Some h.type t (sym h.type_is ∙ is) in
       let typed : operand_type (shown m f x) (operand_of (trees_of m) v) ≡ type_at (trees_of m).types t = sym h.tree_is ∙ ap (type_at (trees_of m).types) same in
-      record { stands = value_stands m f x sound at v here inside narrow; typed = typed; first_class = subst IsFirstClass typed narrow.0 }
+      record { stands = value_stands m f x sound at v here inside; typed = typed; first_class = subst IsFirstClass typed narrow }
 
   -- a block of the function that is not the first
   is_target : (b : LLVMBasicBlock) → IsBlock m b → is_block_outside m (numbered f) b ≡ false → slice_get x.blocks 0 ≢ Some b → IsTarget (shown m f x) b.0
@@ -153,8 +153,8 @@ module _ (m : Module) (f : ℕ) (x : FunctionData) (sound : IsModule m) (at : sl
         let counts = and_parts (nat_eq (length r.operands) (operand_count takes (returns_void m (numbered f)))) (nat_eq (length r.targets) (target_count (rule_of r.op).leads)) (not-false (is_counted m (numbered f) r) h.counts) in
         let types = types_same m f x sound at r.operands h.values.0 inside.0 in
         record {
-          operands = values_stand m f x sound at r.operands h.values.0 inside.0 narrow;
-          first_class = All-map IsFirstClass (operand_type (shown m f x)) os (All-weaker IsHere (λ (o : Operand). IsFirstClass (operand_type (shown m f x) o)) (λ o h. h.0) os narrow);
+          operands = values_stand m f x sound at r.operands h.values.0 inside.0;
+          first_class = All-map IsFirstClass (operand_type (shown m f x)) os narrow;
           count = length-map r.operands (operand_of (trees_of m)) ∙ eqb-true (length r.operands) (operand_count takes (returns_void m (numbered f))) counts.0 ∙ ap (operand_count takes) (same_void m f x sound at);
           fits = ap (fits_trees r.op (option_map (tree m sound) r.written)) types ∙ fits_by_tree m sound r h.values ∙ not-false (row_fits m r) fits.0;
           returns = return_form m f x sound at takes r.operands h.values.0 inside.0 fits.1;

@@ -53,6 +53,10 @@ module _ (m : Module) (s : IsModule m) where
   at_told : {X : Type 0} (f : ConstTree → Option X) (g : LLVMConstKind → Option X) → ((k : LLVMConstKind) → f (const_tree ts cs k) ≡ g k) → (c : LLVMConst) (k : LLVMConstKind) → slice_get m.consts c.0 ≡ Some k → f (const_at cs c) ≡ option_and_then g (slice_get m.consts c.0)
   at_told f g same c k at = ap f (const_tree_of m c k at (s.consts_below c.0 k at)) ∙ same k ∙ ap (option_and_then g) (sym at)
 
+  -- whether it is zero, undef or poison
+  pub fill_there : (c : LLVMConst) (k : LLVMConstKind) → slice_get m.consts c.0 ≡ Some k → fill_in (const_at cs c) ≡ option_and_then fill_of (slice_get m.consts c.0)
+  fill_there c k at = at_told fill_in fill_of fill_told c k at
+
   -- and of a list of these
   list_told : {X : Type 0} (f : ConstTree → Option X) (g : LLVMConstKind → Option X) → ((k : LLVMConstKind) → f (const_tree ts cs k) ≡ g k) → (xs : List LLVMConst)
       → ((i : ℕ) (c : LLVMConst) → slice_get xs i ≡ Some c → (k : LLVMConstKind) × (slice_get m.consts c.0 ≡ Some k)) → told_of f (consts_at cs xs) ≡ told g m.consts xs
@@ -112,7 +116,7 @@ module _ (m : Module) (s : IsModule m) where
       by true = ap (FilledConst F.Zero) array
       by false = refl
   form_tree (C.Splat t element) (count, e, typed, (k, at, fits)) =
-      by (option_and_then fill_of (slice_get m.consts element.0)) ∙ ap (λ (o : Option Fill). option_map_or (λ fill. FilledConst fill (type_at ts t)) o (SplatConst (type_at ts t) (const_at cs element))) (sym (at_told fill_in fill_of fill_told element k at))
+      by (option_and_then fill_of (slice_get m.consts element.0)) ∙ ap (λ (o : Option Fill). option_map_or (λ fill. FilledConst fill (type_at ts t)) o (SplatConst (type_at ts t) (const_at cs element))) (sym (fill_there element k at))
     where
       by : (o : Option Fill) → const_tree ts cs (option_map_or (λ fill. C.Filled fill t) o (C.Splat t element)) ≡ option_map_or (λ fill. FilledConst fill (type_at ts t)) o (SplatConst (type_at ts t) (const_at cs element))
       by None = refl

@@ -7,11 +7,9 @@ use Rattle.std.proofs.lemmas.List.Elements.{All-nil, All-cons, All-head, All-tai
 use Rattle.support.proofs.ListLaws.{item_there}
 use Rattle.kinds.specs.declared.rules.Takes.{Takes}
 use Rattle.kinds.specs.declared.rules.Takes.TheVariants as O
-use Rattle.kinds.specs.Fill.{is_own_fill}
 use Rattle.kinds.specs.Types.{result_of}
-use Rattle.kinds.specs.Held.{width_in, IsFirstClass}
+use Rattle.kinds.specs.Held.{IsFirstClass}
 use Rattle.kinds.specs.Held.{is_void as void_tree}
-use Rattle.kinds.proofs.HeldLaws.{first_class_int}
 use Rattle.llvm_core.specs.declared.numbers.LLVMType.{LLVMType}
 use Rattle.llvm_core.specs.declared.numbers.LLVMConst.{LLVMConst}
 use Rattle.llvm_core.specs.declared.numbers.LLVMFunction.{LLVMFunction}
@@ -26,15 +24,15 @@ use Rattle.llvm_core.specs.Code.{param_names}
 use Rattle.llvm_core.specs.Parts.{IsValue, value_type, param_types}
 use Rattle.llvm_core.specs.Parts.{const_type as type_of_const}
 use Rattle.llvm_core.specs.Sound.{IsModule}
-use Rattle.llvm_core.specs.Data.{TypeTree, VoidType, IntConst, Operand, Placed, const_at, const_tree, type_at, trees_of, const_type, operand_of, param_type, nth_type, placed_in, operand_type}
+use Rattle.llvm_core.specs.Data.{TypeTree, VoidType, Operand, Placed, const_at, type_at, trees_of, const_type, operand_of, param_type, nth_type, placed_in, operand_type}
 use Rattle.llvm_core.specs.Checked.{home, is_outside, return_type, returns_void, returns_other, misfits_return}
 use Rattle.llvm_core.specs.Consts.{is_placeholder}
-use Rattle.llvm_core.specs.Form.{IsFormConst, IsPlainConst, IsNarrowOperand, HasNumber, IsOperandOf, IsReturning, types_of}
+use Rattle.llvm_core.specs.Form.{IsFormConst, IsNarrowOperand, HasNumber, IsOperandOf, IsReturning, types_of}
 use Rattle.llvm_core.specs.Form.{returns_void as void_returned}
 use Rattle.llvm_core.proofs.ApartLemmas.{apart, same_type}
 use Rattle.llvm_core.proofs.RuleLaws.{tree_of}
-use Rattle.llvm_core.proofs.DataLemmas.{within_at, int_tree_of, const_tree_of, const_type_of, filled_const_of, placeholder_const_of}
-use Rattle.llvm_core.proofs.WholeTypes.{shape_there}
+use Rattle.llvm_core.proofs.DataLemmas.{within_at, const_type_of, placeholder_const_of}
+use Rattle.llvm_core.proofs.ElementLemmas.{form_there}
 use Rattle.llvm_core.proofs.WithinLemmas.{const_type_within}
 use Rattle.llvm_core.proofs.FormTypes.{numbered, signature_of, function_typed, param_types_are, nth_is, return_type_is, void_kept}
 use Rattle.llvm_core.proofs.FormPlaces.{shown, own_inst, in_home}
@@ -126,38 +124,21 @@ module _ (m : Module) (f : ℕ) (x : FunctionData) (sound : IsModule m) (at : sl
 
   -- ---- values of the function
 
-  -- of a first class type, and no constant that text does not read
+  -- of a first class type
   abbrev pub IsNarrowHere : Operand → Type 0
   IsNarrowHere o = IsNarrowOperand (shown m f x) o
 
-  const_stands : (c : LLVMConst) → IsValue m (V.Const c) → is_outside m (numbered f) (V.Const c) ≡ false → IsNarrowHere (operand_of (trees_of m) (V.Const c)) → IsFormConst (const_at (trees_of m).consts c)
-  const_stands c here inside narrow = let k = item_there m.consts c.0 here in by k.0 k.1 (ap (λ o. option_map_or is_placeholder o false) (sym k.1) ∙ inside)
-    where
-      parts : (k : LLVMConstKind) → slice_get m.consts c.0 ≡ Some k → IsPlainConst (const_tree (trees_of m).types (trees_of m).consts k)
-      parts k is = subst IsPlainConst (const_tree_of m c k is (sound.consts_below c.0 k is)) narrow.1
+  const_stands : (c : LLVMConst) → IsValue m (V.Const c) → is_outside m (numbered f) (V.Const c) ≡ false → IsFormConst (const_at (trees_of m).consts c)
+  const_stands c here inside = let k = item_there m.consts c.0 here in form_there m sound c k.0 k.1 (ap (λ o. option_map_or is_placeholder o false) (sym k.1) ∙ inside)
 
-      by : (k : LLVMConstKind) → slice_get m.consts c.0 ≡ Some k → is_placeholder k ≡ false → IsFormConst (const_at (trees_of m).consts c)
-      by (C.Int t v) is none =
-          let typed = sound.consts c.0 (C.Int t v) is in
-          let const : const_at (trees_of m).consts c ≡ IntConst typed.0 v =
-          const_tree_of m c (C.Int t v) is tt ∙ ap (λ (u : TypeTree). IntConst (width_in u) v) (int_tree_of m t typed.0 sound typed.1) in
-          rw const ((first_class_int typed.0 (subst (λ k. IsFirstClass (const_type k)) const narrow.0)).0, typed.2)
-      by (C.Filled fill t) is none =
-          let own = (sound.consts c.0 (C.Filled fill t) is).1 in
-          rw (filled_const_of m c fill t is) (ap (is_own_fill fill) (sym (shape_there m sound t (sound.consts c.0 (C.Filled fill t) is).0)) ∙ own)
-      by (C.Bytes t bytes) is none = absurd (parts (C.Bytes t bytes) is)
-      by (C.List t elements) is none = absurd (parts (C.List t elements) is)
-      by (C.Splat t element) is none = absurd (parts (C.Splat t element) is)
-      by (C.Placeholder number t) is none = absurd cc
-
-  -- a value that is there and is not outside is an operand of the function, where its type is first class
-  pub value_stands : (v : LLVMValue) → IsValue m v → is_outside m (numbered f) v ≡ false → IsNarrowHere (operand_of (trees_of m) v) → IsOperandOf (shown m f x) (operand_of (trees_of m) v)
-  value_stands (V.Const c) here inside narrow = const_stands c here inside narrow
-  value_stands (V.Param g place) here inside narrow =
+  -- a value that is there and is not outside is an operand of the function
+  pub value_stands : (v : LLVMValue) → IsValue m v → is_outside m (numbered f) v ≡ false → IsOperandOf (shown m f x) (operand_of (trees_of m) v)
+  value_stands (V.Const c) here inside = const_stands c here inside
+  value_stands (V.Param g place) here inside =
       let same = eqb-true g.0 f (not-false (nat_eq g.0 f) inside) in
       let named = names_of_params g same in
       (same, omega (arith, here, named))
-  value_stands (V.Inst i) here inside narrow = inst_stands i here inside
+  value_stands (V.Inst i) here inside = inst_stands i here inside
 
   const_inside : (c : LLVMConst) → IsFormConst (const_at (trees_of m).consts c) → (o : Option LLVMConstKind) → slice_get m.consts c.0 ≡ o → option_map_or is_placeholder o false ≡ false
   const_inside c h None e = refl
@@ -192,13 +173,11 @@ module _ (m : Module) (f : ℕ) (x : FunctionData) (sound : IsModule m) (at : sl
       let rest = types_same vs (All-tail (IsValue m) v vs here) inside.1 in
       cc
 
-  pub values_stand : (vs : List LLVMValue) → All (IsValue m) vs → list_any (is_outside m (numbered f)) vs ≡ false → All IsNarrowHere (map (operand_of (trees_of m)) vs) → All (IsOperandOf (shown m f x)) (map (operand_of (trees_of m)) vs)
-  values_stand [] here none narrow = All-nil (IsOperandOf (shown m f x))
-  values_stand (v ∷ vs) here none narrow =
-      let o = operand_of (trees_of m) v in
-      let os = map (operand_of (trees_of m)) vs in
+  pub values_stand : (vs : List LLVMValue) → All (IsValue m) vs → list_any (is_outside m (numbered f)) vs ≡ false → All (IsOperandOf (shown m f x)) (map (operand_of (trees_of m)) vs)
+  values_stand [] here none = All-nil (IsOperandOf (shown m f x))
+  values_stand (v ∷ vs) here none =
       let inside = or_parts (is_outside m (numbered f) v) (list_any (is_outside m (numbered f)) vs) none in
-      All-cons (IsOperandOf (shown m f x)) o os (value_stands v (All-head (IsValue m) v vs here) inside.0 (All-head IsNarrowHere o os narrow)) (values_stand vs (All-tail (IsValue m) v vs here) inside.1 (All-tail IsNarrowHere o os narrow))
+      All-cons (IsOperandOf (shown m f x)) (operand_of (trees_of m) v) (map (operand_of (trees_of m)) vs) (value_stands v (All-head (IsValue m) v vs here) inside.0) (values_stand vs (All-tail (IsValue m) v vs here) inside.1)
 
   pub values_inside : (vs : List LLVMValue) → All (IsOperandOf (shown m f x)) (map (operand_of (trees_of m)) vs) → list_any (is_outside m (numbered f)) vs ≡ false
   values_inside [] stand = refl

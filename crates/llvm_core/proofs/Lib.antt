@@ -3,6 +3,7 @@ pub mod ChangeLemmas
 pub mod StoreLemmas
 pub mod StructLemmas
 pub mod StructCalls
+pub mod StructFirsts
 pub mod KeyLemmas
 pub mod ListedLemmas
 pub mod WithinLemmas
@@ -42,6 +43,7 @@ pub mod DecideLemmas
 pub mod CheckedInsts
 pub mod DistinctLaws
 pub mod FormNested
+pub mod FormElements
 pub mod CheckedForm
 pub mod BodyLists
 pub mod BodyFrames
@@ -52,3 +54,10 @@ pub mod OneForm
 pub mod FormSteps
 pub mod FormTrees
 pub mod KeptLaws
+pub mod HoldLemmas
+pub mod ElementLemmas
+pub mod PieceTrees
+pub mod PieceLemmas
+pub mod InsertLemmas
+pub mod PlaceLemmas
+pub mod SplatLemmas

@@ -4,7 +4,7 @@ use Rattle.std.specs.Prelude.{◌≡◌, ◌<◌, ◌≤◌, ◌^◌, ℕ, suc, 
 use Rattle.std.specs.List.{flat_map}
 use Rattle.std.specs.Option.{option_map_or}
 use Rattle.kinds.specs.Structs.{IsFormStruct, IsNested}
-use Rattle.llvm_core.specs.Data.{TypeTree, VoidType, FunctionType, NamedType, TypeTrees, StructBody, Struct, ConstTree, IntConst, FilledConst, BytesConst, ListConst, SplatConst, PlaceholderConst, ConstTrees, NoConsts, ThenConst, Operand, Constant, Parameter, Result, RowData, Instruction, Phi, Applied, Placed, Block, Function, ModuleData, const_type, operand_type, placed_in, targets, phi_entries}
+use Rattle.llvm_core.specs.Data.{TypeTree, VoidType, FunctionType, NamedType, TypeTrees, StructBody, Struct, ConstTree, IntConst, FilledConst, BytesConst, ListConst, SplatConst, PlaceholderConst, ConstTrees, NoConsts, ThenConst, Operand, Constant, Parameter, Result, RowData, Instruction, Phi, Applied, Placed, Block, Function, ModuleData, const_type, operand_type, placed_in, targets, phi_entries, listed, formed}
 use Rattle.kinds.specs.declared.rules.Takes.{Takes}
 use Rattle.kinds.specs.declared.rules.Takes.TheVariants as O
 use Rattle.kinds.specs.Rules.{ends, target_count, operand_count}
@@ -17,19 +17,26 @@ use Rattle.llvm_core.specs.Edges.{count_of}
 use Rattle.llvm_core.specs.Parts.{IsIntAt}
 use Rattle.support.specs.Interned.{IsDistinctList}
 use Rattle.kinds.specs.Names.{is_good_name, is_intrinsic_name, IsGoodOrNone}
+use Rattle.llvm_core.specs.Elements.{HasElements}
 use Rattle.llvm_core.specs.Checked.{ends_in_only, named}
 
 -- ---- types and operands
 
--- a constant of the form: an integer, undef, poison, or the zero of what is no integer type; of which type it may be is asked
--- where it stands. Bytes, lists and splats are not read yet.
-abbrev pub IsFormConst : ConstTree → Type 0
-IsFormConst (IntConst w v) = (1 ≤ w) × IsIntAt w v
-IsFormConst (FilledConst fill type) = is_own_fill fill (shape type) ≡ true
-IsFormConst (BytesConst bytes) = ⊥
-IsFormConst (ListConst type elements) = ⊥
-IsFormConst (SplatConst type element) = ⊥
-IsFormConst (PlaceholderConst n type) = ⊥
+abbrev mutual
+  -- A constant of the form is in the one form of constants, all the way in: an integer that fits its width, undef, poison, the zero of
+  -- what is no integer type, bytes not all of which are 0, a list that is no zero, undef, poison or bytes, or a splat that is none of
+  -- these. Of which type it may be is asked where it stands, and whether its elements are those of its type of the module.
+  pub IsFormConst : ConstTree → Type 0
+  IsFormConst (IntConst w v) = (1 ≤ w) × IsIntAt w v
+  IsFormConst (FilledConst fill type) = is_own_fill fill (shape type) ≡ true
+  IsFormConst (BytesConst bytes) = All (λ (b : ℕ). b < 2 ^ 8) bytes × (formed (BytesConst bytes) ≡ BytesConst bytes)
+  IsFormConst (ListConst type elements) = (listed type elements ≡ ListConst type elements) × AreFormConsts elements
+  IsFormConst (SplatConst type element) = (formed (SplatConst type element) ≡ SplatConst type element) × IsFormConst element
+  IsFormConst (PlaceholderConst n type) = ⊥
+
+  pub AreFormConsts : ConstTrees → Type 0
+  AreFormConsts NoConsts = Unit {0}
+  AreFormConsts (ThenConst c cs) = IsFormConst c × AreFormConsts cs
 
 -- one of the instructions has that number
 abbrev pub HasNumber : ℕ → List Placed → Type 0
@@ -169,11 +176,23 @@ constant_types p = flat_map constant_type (operands_of p.instruction)
 abbrev pub types_in : ModuleData → List TypeTree
 types_in d = map (λ (s : Struct). NamedType s.name) d.structs ++ map (λ (f : Function). f.type) d.functions ++ map (λ (p : Placed). p.type) (flat_map placed_in d.functions) ++ flat_map constant_types (flat_map placed_in d.functions)
 
--- a module of the form, whatever its own name is: no type in use nests too deep through the fields of structs
+-- where an operand is a constant, its elements are those that its type asks for, all the way in
+abbrev pub IsMadeOperand : List Struct → Operand → Type 0
+IsMadeOperand structs (Constant c) = HasElements structs c
+IsMadeOperand structs (Parameter g i) = Unit {0}
+IsMadeOperand structs (Result n) = Unit {0}
+
+-- so it is for each operand of the function
+abbrev pub HasMadeOperands : List Struct → Function → Type 0
+HasMadeOperands structs f = All (λ (p : Placed). All (IsMadeOperand structs) (operands_of p.instruction)) (placed_in f)
+
+-- A module of the form, whatever its own name is: no type in use nests too deep through the fields of structs, and the constants that
+-- instructions use have the elements that their types ask for.
 pub record IsForm (d : ModuleData) : Type 0 where
   pub functions : All IsFormFunction d.functions
   pub structs : All IsFormStruct d.structs
   pub nested : All (IsNested d.structs) (types_in d)
+  pub elements : All (HasMadeOperands d.structs) d.functions
 
 -- ---- what is translated
 
@@ -183,13 +202,13 @@ abbrev pub value_types : Function → List TypeTree
 value_types f = result_of f.type ∷ params_of f.type ++ map (λ (p : Placed). p.type) (placed_in f) ++ flat_map constant_types (placed_in f)
 
 abbrev mutual
-  -- a constant that is translated: each integer in it has at most 64 bits
+  -- a constant that is translated: each integer in it has at most 64 bits, and nothing in it is a splat of a scalable vector
   pub IsShortConst : ConstTree → Type 0
   IsShortConst (IntConst w v) = w ≤ 64
   IsShortConst (FilledConst fill type) = Unit {0}
   IsShortConst (BytesConst bytes) = Unit {0}
   IsShortConst (ListConst type elements) = AreShort elements
-  IsShortConst (SplatConst type element) = IsShortConst element
+  IsShortConst (SplatConst type element) = ⊥
   IsShortConst (PlaceholderConst n type) = Unit {0}
 
   pub AreShort : ConstTrees → Type 0
@@ -203,31 +222,16 @@ IsShortOperand (Parameter g i) = Unit {0}
 IsShortOperand (Result n) = Unit {0}
 
 -- each value of the function is of a type that is translated, as far as the type itself says: what stands in the structs
--- that it names is not looked at; and no instruction uses an integer constant of more than 64 bits
+-- that it names is not looked at; and each constant that an instruction uses is translated
 pub record IsHeldFunction (f : Function) : Type 0 where
   pub types : All IsHeldResult (value_types f)
   pub constants : All (λ (p : Placed). All IsShortOperand (operands_of p.instruction)) (placed_in f)
 
 -- ---- what the form asks beside the rules of a checked module
 
--- no bytes, list or splat, which text does not read yet; a placeholder is refused by the rules of a checked module
-abbrev pub IsPlainConst : ConstTree → Type 0
-IsPlainConst (IntConst w v) = Unit {0}
-IsPlainConst (FilledConst fill type) = Unit {0}
-IsPlainConst (BytesConst bytes) = ⊥
-IsPlainConst (ListConst type elements) = ⊥
-IsPlainConst (SplatConst type element) = ⊥
-IsPlainConst (PlaceholderConst n type) = Unit {0}
-
--- so where an operand is a constant; of another nothing is asked
-abbrev pub IsPlainOperand : Operand → Type 0
-IsPlainOperand (Constant c) = IsPlainConst c
-IsPlainOperand (Parameter g i) = Unit {0}
-IsPlainOperand (Result n) = Unit {0}
-
--- an operand of a first class type, and no constant that text does not read
+-- an operand of a first class type
 abbrev pub IsNarrowOperand : Function → Operand → Type 0
-IsNarrowOperand f o = IsFirstClass (operand_type f o) × IsPlainOperand o
+IsNarrowOperand f o = IsFirstClass (operand_type f o)
 
 -- the types of operands, and of a result where there is one, are first class; what has no result has no name
 pub record IsNarrowPlaced (f : Function) (p : Placed) : Type 0 where

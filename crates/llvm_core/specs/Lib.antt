@@ -4,9 +4,14 @@ pub mod Module
 pub mod Code
 pub mod Parts
 pub mod Consts
+pub mod Firsts
+pub mod Holding
 pub mod Kept
 pub mod Sound
 pub mod Data
+pub mod Elements
+pub mod Inserted
+pub mod Pieces
 pub mod Bodies
 pub mod Names
 pub mod Edges

@@ -19,6 +19,7 @@ pub mod nesting;
 pub mod numbers;
 pub mod operands;
 pub mod phis;
+pub mod pieces;
 pub mod struct_rules;
 pub mod structs;
 pub mod types;

@@ -1,6 +1,6 @@
 //! A module in memory: the calls that build it and those that read it.
 
-ghost use Rattle.std.specs.Prelude.{◌≡◌, ◌<◌, ◌⊎◌, ◌++◌, ◌∷◌, [], IfOk, IfSome, OnErr, OnOk, None, Some, All, IsTrue, length, map, slice_get};
+ghost use Rattle.std.specs.Prelude.{◌≡◌, ◌<◌, ◌⊎◌, ◌++◌, ◌∷◌, [], IfOk, IfSome, IfNone, OnErr, OnOk, None, Some, All, IsTrue, length, map, slice_get};
 ghost use Rattle.std.specs.Option.{option_map};
 ghost use Rattle.llvm_core.specs.declared.code.LLVMValue.TheVariants as values;
 ghost use Rattle.llvm_core.specs.declared.types.ResultType.TheVariants as results;
@@ -8,7 +8,8 @@ ghost use Rattle.support.specs.Interned.{Interned};
 ghost use Rattle.llvm_core.specs.Module.{Module};
 ghost use Rattle.llvm_core.specs.Code.{code_of, with_code, with_function, with_param_name, with_block, with_inst, with_operand, with_entry, with_changed_inst, param_names};
 ghost use Rattle.llvm_core.specs.Parts.{IsTypeOver, HasFitParts, IsFunctionType, IsValue, IsBlock, HasParts, HasValues, IsResultType, IsResultOver, TakesOperand, IsPhi, made_kind, const_type, is_function, given, kind_params, type_params, value_type, result_type, row_fits, row_result, shape_of, type_nth, view, view_nth};
-ghost use Rattle.llvm_core.specs.Consts.{IsConstIn, IsMadeBelow};
+ghost use Rattle.llvm_core.specs.Consts.{IsConstIn, IsMadeBelow, struct_named};
+ghost use Rattle.llvm_core.specs.declared.structs.StructData.{StructData};
 ghost use Rattle.llvm_core.specs.Sound.{AreFieldsIn, IsModule};
 ghost use Rattle.llvm_core.specs.Data as lists;
 ghost use Rattle.llvm_core.specs.Data.{trees_of, type_at, result_tree, operand_of, instruction_of, data_of, fields_of, AreApart, AllBlocks, AllPlaced};
@@ -29,7 +30,10 @@ use support::text::Text;
 
 mod adding;
 mod forming;
+mod holding;
+mod inserting;
 mod naming;
+mod splats;
 
 /// A module in memory.
 #[derive(Drop)]
@@ -263,6 +267,14 @@ impl LLVMModule {
         ensures within { IfSome result (λ b. AreFieldsIn self.now.types b.now) }
     {
         self.structs.get(s).body.as_ref()
+    }
+
+    /// The first struct of that name.
+    pub fn struct_named(&self, name: &str) -> Option<LLVMStruct>
+        ensures found { IfSome result (λ s. (x : StructData) × (slice_get self.now.structs s.0 ≡ Some x) × (struct_named self.now.structs name.now ≡ Some x)) }
+        ensures none { IfNone result (struct_named self.now.structs name.now ≡ None) }
+    {
+        self.structs.find(name)
     }
 
     /// How many functions there are.

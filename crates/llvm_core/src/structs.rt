@@ -1,8 +1,14 @@
 //! Structs with a name, as a module keeps them, beside the types that name them.
 
-ghost use Rattle.std.specs.Prelude.{◌≡◌, ◌<◌, ◌^◌, ◌++◌, ◌∷◌, [], IfOk, OnErr, OnOk, Some, length, slice_get};
+ghost use Rattle.std.specs.Prelude.{◌≡◌, ◌<◌, ◌^◌, ◌++◌, ◌∷◌, [], nat_eq, IfOk, OnErr, OnOk, Some, length, slice_get};
+ghost use Rattle.std.proofs.Common.{ap};
+ghost use Rattle.std.specs.Cmp.Lexicographic.{pointwise, bytes_decides, nat_list_eq_equiv};
+ghost use Rattle.std.specs.Hash as fed;
+ghost use Rattle.llvm_core.specs.Firsts.{IsFirst, AreFirsts, IsNoted};
+ghost use Rattle.indexmap.specs.IndexMap.{IsUnchanged};
 
 use crate::numbers::{LLVMStruct, LLVMType};
+use indexmap::{Equivalent, IndexMap};
 use kinds::types::StructLayout;
 use std::alloc::{AllocError, Global};
 use std::marker::Model;
@@ -23,22 +29,43 @@ pub struct StructData {
     pub body: Option<StructFields>,
 }
 
+/// A name that is looked for.
+#[derive(Clone, Copy, PartialEq, Eq, Hash)]
+struct Sought<'a> {
+    name: &'a str,
+}
+
+impl<'a> Equivalent<Text> for Sought<'a> {
+    ghost equivalent = { λ q. pointwise nat_eq q.name.now };
+
+    ghost respects_hash = { λ q k h. ap fed.str ((bytes_decides q.name.now k).0 h) };
+
+    ghost respects_eq = { λ q x y. nat_list_eq_equiv.congr q.name.now x y };
+
+    fn equivalent(&self, key: &Text) -> bool {
+        self.name == key.as_str()
+    }
+}
+
 /// The structs of a module, under their numbers, seen as their list.
 #[derive(Drop)]
 pub struct StructStore {
     alloc: Global,
     items: Vec<StructData>,
+    /// The first struct of each name.
+    firsts: IndexMap<Text, LLVMStruct>,
 }
 
 impl Model for StructStore {
     ghost use Rattle.std.specs.Prelude.{List, length, ◌<◌, ◌^◌};
     ghost use Rattle.llvm_core.specs.declared.structs.StructData.{StructData};
+    ghost use Rattle.llvm_core.specs.Firsts.{AreFirsts};
 
     ghost Value = { List StructData };
 
     ghost view = { λ s. s.items.items };
 
-    ghost invariant = { λ s. length s.items.items < 2 ^ 32 };
+    ghost invariant = { λ s. (length s.items.items < 2 ^ 32) × AreFirsts s.items.items s.firsts };
 }
 
 impl StructStore {
@@ -48,6 +75,7 @@ impl StructStore {
         StructStore {
             alloc,
             items: Vec::new(alloc),
+            firsts: IndexMap::new(alloc),
         }
     }
 
@@ -61,9 +89,12 @@ impl StructStore {
         if at >= u32::MAX as usize {
             return Err(AllocError);
         }
+        let s = LLVMStruct(at as u32);
         let name = Text::copy(self.alloc, name)?;
+        self.items.reserve(1)?;
+        note(self.alloc, &mut self.firsts, name.as_str(), s)?;
         self.items.push(StructData { name, body })?;
-        Ok(LLVMStruct(at as u32))
+        Ok(s)
     }
 
     pub fn len(&self) -> u32
@@ -78,4 +109,29 @@ impl StructStore {
     {
         &self.items[s.0 as usize]
     }
+
+    /// The first struct of that name.
+    pub fn find(&self, name: &str) -> Option<LLVMStruct>
+        ensures { IsFirst self.now name.now result }
+    {
+        self.firsts.get(Sought { name }).copied()
+    }
+}
+
+/// Notes a struct under its name, unless one of that name is noted.
+fn note(
+    alloc: Global,
+    firsts: &mut IndexMap<Text, LLVMStruct>,
+    name: &str,
+    s: LLVMStruct,
+) -> Result<(), AllocError>
+    ensures ok { OnOk result (IsNoted firsts.old firsts.new name.now s) }
+    ensures err { OnErr result (IsUnchanged firsts.old firsts.new) }
+{
+    if firsts.contains_key(Sought { name }) {
+        return Ok(());
+    }
+    let name = Text::copy(alloc, name)?;
+    firsts.insert(name, s)?;
+    Ok(())
 }

@@ -9,10 +9,7 @@ use Rattle.std.proofs.lemmas.List.Elements.{All-nil, All-cons, All-head, All-tai
 use Rattle.support.proofs.ListLaws.{all_from, item_there}
 use Rattle.kinds.specs.Held.{IsFirstClass}
 use Rattle.llvm_core.specs.declared.numbers.LLVMInstRef.{LLVMInstRef}
-use Rattle.llvm_core.specs.declared.consts.LLVMConstKind.{LLVMConstKind}
-use Rattle.llvm_core.specs.declared.consts.LLVMConstKind.TheVariants as C
 use Rattle.llvm_core.specs.declared.code.LLVMValue.{LLVMValue}
-use Rattle.llvm_core.specs.declared.code.LLVMValue.TheVariants as V
 use Rattle.llvm_core.specs.declared.code.LLVMInst.{LLVMInst}
 use Rattle.llvm_core.specs.declared.code.LLVMInst.TheVariants as I
 use Rattle.llvm_core.specs.declared.code.PhiEntry.{PhiEntry}
@@ -24,15 +21,15 @@ use Rattle.llvm_core.specs.declared.check_err.CheckErr.TheVariants.{BlockOutside
 use Rattle.llvm_core.specs.Module.{Module}
 use Rattle.llvm_core.specs.Parts.{IsValue, IsEntry, HasValues, is_kind, operands}
 use Rattle.llvm_core.specs.Sound.{IsModule}
-use Rattle.llvm_core.specs.Data.{Operand, Block, const_tree, trees_of, operand_of, entry_of, instruction_of}
+use Rattle.llvm_core.specs.Data.{Operand, Block, trees_of, operand_of, entry_of, instruction_of}
 use Rattle.llvm_core.specs.Checked.{IsChecked, home, is_void, is_outside, is_block_outside, is_entry_outside, reaches_outside, is_deep, is_deep_value, is_deep_inst}
-use Rattle.llvm_core.specs.Form.{IsPlainConst, IsPlainOperand, IsNarrowOperand, IsNarrowPlaced, IsNarrowBlock, operands_of}
-use Rattle.llvm_core.proofs.DataLemmas.{const_tree_of, within_at, inst_of_number}
+use Rattle.llvm_core.specs.Form.{IsNarrowOperand, IsNarrowPlaced, IsNarrowBlock, operands_of}
+use Rattle.llvm_core.proofs.DataLemmas.{within_at, inst_of_number}
 use Rattle.llvm_core.proofs.GivenLemmas.{none_any_at}
 use Rattle.llvm_core.proofs.FormTypes.{numbered, void_kept}
 use Rattle.llvm_core.proofs.FormValues.{value_typed}
 use Rattle.llvm_core.proofs.FormPlaces.{shown, shown_block, shown_inst, IsFromBlock, inst_from}
-use Rattle.llvm_form.specs.Narrow.{is_good_or_none, is_returned_kind, is_first_class_type, is_first_class_value, is_plain_const, is_plain_value, is_narrow_value, is_named_right, is_narrow_inst, is_narrow_inst_data, is_narrow_block_data}
+use Rattle.llvm_form.specs.Narrow.{is_good_or_none, is_returned_kind, is_first_class_type, is_narrow_value, is_named_right, is_narrow_inst, is_narrow_inst_data, is_narrow_block_data}
 use Rattle.llvm_form.proofs.AllLaws.{each_passes, all_pass, mapped_decided}
 use Rattle.llvm_form.proofs.TypeLaws.{good_or_none, named_right, deep_shallow, first_class_decided, returned_decided}
 
@@ -45,36 +42,18 @@ operands_shown m (I.Phi type entries) = by entries
     by (e ∷ es) = ap (λ os. operand_of (trees_of m) e.value ∷ os) (by es)
 operands_shown m (I.Row r) = refl
 
--- whether text reads a constant is told by its kind
-kind_plain : (m : Module) (k : LLVMConstKind) → Decides (is_plain_const k) (IsPlainConst (const_tree (trees_of m).types (trees_of m).consts k))
-kind_plain m (C.Int t value) = (λ e. tt, λ h. refl)
-kind_plain m (C.Filled fill t) = (λ e. tt, λ h. refl)
-kind_plain m (C.Bytes t bytes) = (λ e. absurd (cc e), λ h. absurd h)
-kind_plain m (C.List t elements) = (λ e. absurd (cc e), λ h. absurd h)
-kind_plain m (C.Splat t element) = (λ e. absurd (cc e), λ h. absurd h)
-kind_plain m (C.Placeholder number t) = (λ e. tt, λ h. refl)
-
 module _ (m : Module) (sound : IsModule m) (f : ℕ) (x : FunctionData) (at : slice_get m.functions f ≡ Some x) where
   abbrev IsNarrowHere : Operand → Type 0
   IsNarrowHere o = IsNarrowOperand (shown m f x) o
 
   -- ---- values
 
-  plain_decided : (v : LLVMValue) → IsValue m v → Decides (is_plain_value m v) (IsPlainOperand (operand_of (trees_of m) v))
-  plain_decided (V.Const c) here =
-      let k = item_there m.consts c.0 here in
-      let tree = const_tree_of m c k.0 k.1 (sound.consts_below c.0 k.0 k.1) in
-      Decides-at (is_plain_value m (V.Const c)) (is_plain_const k.0) (ap (λ o. option_map_or is_plain_const o false) k.1) (subst (λ τ. Decides (is_plain_const k.0) (IsPlainConst τ)) (sym tree) (kind_plain m k.0))
-  plain_decided (V.Param g place) here = (λ e. tt, λ h. refl)
-  plain_decided (V.Inst i) here = (λ e. tt, λ h. refl)
-
   value_decided : (v : LLVMValue) → IsValue m v → is_outside m (numbered f) v ≡ false → is_deep_value m v ≡ false → Decides (is_narrow_value m v) (IsNarrowHere (operand_of (trees_of m) v))
   value_decided v here inside shallow =
       let t = value_typed m f x sound at v here inside in
       let not_deep = ap (λ o. option_map_or (is_deep m) o false) (sym t.type_is) ∙ shallow in
-      Decides-and (is_first_class_value m v) (is_plain_value m v)
-      (Decides-at (is_first_class_value m v) (is_first_class_type m t.type) (ap (λ o. option_map_or (is_first_class_type m) o false) t.type_is) (subst (λ τ. Decides (is_first_class_type m t.type) (IsFirstClass τ)) t.tree_is (first_class_decided m sound t.type t.within (deep_shallow m t.type not_deep))))
-      (plain_decided v here)
+      Decides-at (is_narrow_value m v) (is_first_class_type m t.type) (ap (λ o. option_map_or (is_first_class_type m) o false) t.type_is)
+      (subst (λ τ. Decides (is_first_class_type m t.type) (IsFirstClass τ)) t.tree_is (first_class_decided m sound t.type t.within (deep_shallow m t.type not_deep)))
 
   -- the operands of an instruction are there, and none is outside
   operands_there : (i : LLVMInst) → HasValues m i → All (IsValue m) (operands i)

@@ -22,11 +22,11 @@ use Rattle.llvm_core.specs.Module.{Module}
 use Rattle.llvm_core.specs.Names.{is_good_name, IsGoodOrNone}
 use Rattle.llvm_core.specs.Parts.{is_kind}
 use Rattle.llvm_core.specs.Sound.{AreFieldsIn, IsStructIn, IsModule}
-use Rattle.llvm_core.specs.Data.{TypeTree, TypeTrees, FunctionType, ConstTree, IntConst, FilledConst, BytesConst, ListConst, SplatConst, PlaceholderConst, Operand, Constant, Parameter, Result, Placed, Block, Function, StructBody, ModuleData, Instruction, Phi, Applied, type_at, types_at, trees_of, fields_of, struct_of, data_of, operand_type}
+use Rattle.llvm_core.specs.Data.{TypeTree, TypeTrees, FunctionType, Operand, Placed, Block, Function, StructBody, ModuleData, Instruction, Phi, Applied, type_at, types_at, trees_of, fields_of, struct_of, data_of, operand_type}
 use Rattle.llvm_core.specs.declared.check_err.Place.TheVariants as P
 use Rattle.llvm_core.specs.declared.check_err.CheckErr.TheVariants.{TooDeep}
 use Rattle.llvm_core.specs.Checked.{IsChecked, is_deep, struct_names}
-use Rattle.llvm_core.specs.Form.{IsFormConst, IsPlainConst, IsPlainOperand, IsNarrowOperand, IsOperandOf, IsOperand, IsForm, IsFormFunction, IsFormBlock, IsFormPlaced, IsFormInstruction, IsNarrow, IsNarrowFunction, IsNarrowBlock, IsNarrowPlaced, operands_of}
+use Rattle.llvm_core.specs.Form.{IsNarrowOperand, IsOperand, IsForm, IsFormFunction, IsFormBlock, IsFormPlaced, IsFormInstruction, IsNarrow, IsNarrowFunction, IsNarrowBlock, IsNarrowPlaced, operands_of}
 use Rattle.llvm_core.proofs.DataLemmas.{within_at, function_at, function_tree_of, block_count_of, block_of_number}
 use Rattle.llvm_core.proofs.FormTypes.{signature_of, function_typed}
 use Rattle.llvm_core.proofs.FormPlaces.{shown, block_from}
@@ -151,20 +151,6 @@ module _ (m : Module) (sound : IsModule m) (checked : IsChecked m) (f : ℕ) (x 
 
 -- ---- a function of the form is narrow
 
--- a constant of the form is one that text reads
-plain_const : (c : ConstTree) → IsFormConst c → IsPlainConst c
-plain_const (IntConst w v) form = tt
-plain_const (FilledConst fill type) form = tt
-plain_const (BytesConst bytes) form = absurd form
-plain_const (ListConst type elements) form = absurd form
-plain_const (SplatConst type element) form = absurd form
-plain_const (PlaceholderConst n type) form = absurd form
-
-plain_operand : (f : Function) (o : Operand) → IsOperandOf f o → IsPlainOperand o
-plain_operand f (Constant c) stands = plain_const c stands
-plain_operand f (Parameter g i) stands = tt
-plain_operand f (Result n) stands = tt
-
 module _ (f : Function) where
   operands_narrow : (b : ℕ) (type : TypeTree) (i : Instruction) → IsFormInstruction f b type i → All (IsNarrowOperand f) (operands_of i)
   operands_narrow b type (Phi entries) form = by entries form.0
@@ -174,15 +160,15 @@ module _ (f : Function) where
       by (e ∷ es) all =
           let Q : Operand × ℕ → Type 0 = λ e. IsOperand f type e.0 in
           let here = All-head Q e es all in
-          let first : IsNarrowOperand f e.0 = (subst IsFirstClass (sym here.typed) here.first_class, plain_operand f e.0 here.stands) in
+          let first : IsNarrowOperand f e.0 = subst IsFirstClass (sym here.typed) here.first_class in
           All-cons (IsNarrowOperand f) e.0 (map (λ (e : Operand × ℕ). e.0) es) first (by es (All-tail Q e es all))
-  operands_narrow b type (Applied r) form = of_types r.operands form.operands form.first_class
+  operands_narrow b type (Applied r) form = of_types r.operands form.first_class
     where
-      of_types : (os : List Operand) → All (IsOperandOf f) os → All IsFirstClass (map (operand_type f) os) → All (IsNarrowOperand f) os
-      of_types [] stand all = All-nil (IsNarrowOperand f)
-      of_types (o ∷ os) stand all =
-          let here : IsNarrowOperand f o = (All-head IsFirstClass (operand_type f o) (map (operand_type f) os) all, plain_operand f o (All-head (IsOperandOf f) o os stand)) in
-          All-cons (IsNarrowOperand f) o os here (of_types os (All-tail (IsOperandOf f) o os stand) (All-tail IsFirstClass (operand_type f o) (map (operand_type f) os) all))
+      of_types : (os : List Operand) → All IsFirstClass (map (operand_type f) os) → All (IsNarrowOperand f) os
+      of_types [] all = All-nil (IsNarrowOperand f)
+      of_types (o ∷ os) all =
+          let τs = map (operand_type f) os in
+          All-cons (IsNarrowOperand f) o os (All-head IsFirstClass (operand_type f o) τs all) (of_types os (All-tail IsFirstClass (operand_type f o) τs all))
 
   narrow_placed : (b : ℕ) (p : Placed) → IsFormPlaced f b p → IsNarrowPlaced f p
   narrow_placed b p form = record { name = form.name; unnamed = form.unnamed; result = form.returned; operands = operands_narrow b p.type p.instruction form.instruction }

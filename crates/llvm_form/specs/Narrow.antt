@@ -4,14 +4,11 @@ use Rattle.std.specs.List.{list_all}
 use Rattle.std.specs.Option.{option_map_or}
 use Rattle.llvm_core.specs.declared.types.LLVMTypeKind.{LLVMTypeKind}
 use Rattle.llvm_core.specs.declared.types.LLVMTypeKind.TheVariants as T
-use Rattle.llvm_core.specs.declared.consts.LLVMConstKind.{LLVMConstKind}
-use Rattle.llvm_core.specs.declared.consts.LLVMConstKind.TheVariants as C
 use Rattle.llvm_core.specs.declared.numbers.LLVMType.{LLVMType}
 use Rattle.llvm_core.specs.declared.numbers.LLVMFunction.{LLVMFunction}
 use Rattle.llvm_core.specs.declared.numbers.LLVMBasicBlock.{LLVMBasicBlock}
 use Rattle.llvm_core.specs.declared.numbers.LLVMInstRef.{LLVMInstRef}
 use Rattle.llvm_core.specs.declared.code.LLVMValue.{LLVMValue}
-use Rattle.llvm_core.specs.declared.code.LLVMValue.TheVariants as V
 use Rattle.llvm_core.specs.declared.code.FunctionData.{FunctionData}
 use Rattle.llvm_core.specs.declared.code.BlockData.{BlockData}
 use Rattle.llvm_core.specs.declared.code.InstData.{InstData}
@@ -37,15 +34,6 @@ is_first_class_kind k = is_first_class (shape_of k)
 abbrev pub is_returned_kind : LLVMTypeKind → Bool
 is_returned_kind k = is_void k || is_first_class_kind k
 
--- no bytes, list or splat, which text does not read yet; a placeholder is refused by the rules of a checked module
-abbrev pub is_plain_const : LLVMConstKind → Bool
-is_plain_const (C.Int t value) = true
-is_plain_const (C.Filled fill t) = true
-is_plain_const (C.Bytes t bytes) = false
-is_plain_const (C.List t elements) = false
-is_plain_const (C.Splat t element) = false
-is_plain_const (C.Placeholder number t) = true
-
 module _ (m : Module) where
   abbrev pub is_first_class_type : LLVMType → Bool
   is_first_class_type t = is_kind is_first_class_kind m.types t
@@ -53,14 +41,8 @@ module _ (m : Module) where
   abbrev pub is_first_class_value : LLVMValue → Bool
   is_first_class_value v = option_map_or is_first_class_type (value_type m v) false
 
-  -- no constant that text does not read
-  abbrev pub is_plain_value : LLVMValue → Bool
-  is_plain_value (V.Const c) = option_map_or is_plain_const (slice_get m.consts c.0) false
-  is_plain_value (V.Param f place) = true
-  is_plain_value (V.Inst i) = true
-
   abbrev pub is_narrow_value : LLVMValue → Bool
-  is_narrow_value v = is_first_class_value v && is_plain_value v
+  is_narrow_value v = is_first_class_value v
 
   -- ---- code
 

@@ -10,8 +10,8 @@ use crate::functions::is_narrow;
 use llvm_core::module::LLVMModule;
 
 #[tactic(auto, using(crate::proofs::FormLaws::form_decided))]
-/// Whether a checked module is of the form: each function has a body, names can be said by a text, types of values are first
-/// class, and no operand is bytes, a list or a splat.
+/// Whether a checked module is of the form: each function has a body, names can be said by a text, and types of values are first
+/// class. Of a constant its type alone is asked: each that a module keeps is in the one form, and made as its type asks.
 pub fn is_form(m: &LLVMModule) -> bool
     requires checked { IsChecked m.now }
     requires once { AreInstsOnce (data_of m.now) }

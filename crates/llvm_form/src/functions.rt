@@ -7,47 +7,23 @@ ghost use Rattle.llvm_core.specs.Checked.{IsChecked, struct_names};
 ghost use Rattle.llvm_core.specs.Code.{param_names};
 ghost use Rattle.llvm_core.specs.Names.{is_good_name};
 ghost use Rattle.llvm_core.specs.Parts.{IsValue, HasValues, is_kind, operands};
-ghost use Rattle.llvm_form.specs.Narrow.{is_good_or_none, is_first_class_type, is_returned_kind, is_plain_const, is_plain_value, is_narrow_value, is_named_right, is_narrow_inst, is_narrow_block, is_narrow_signature, is_narrow_function, is_narrow_function_data, is_narrow};
+ghost use Rattle.llvm_form.specs.Narrow.{is_good_or_none, is_first_class_type, is_returned_kind, is_narrow_value, is_named_right, is_narrow_inst, is_narrow_block, is_narrow_signature, is_narrow_function, is_narrow_function_data, is_narrow};
 
 use crate::narrow::{is_first_class_kind, is_good_or_none, is_returned_kind, is_void};
 use kinds::names::is_good_name;
 use llvm_core::code::{LLVMInst, LLVMValue, PhiEntry};
-use llvm_core::consts::LLVMConstKind;
 use llvm_core::module::LLVMModule;
 use llvm_core::numbers::{LLVMBasicBlock, LLVMFunction, LLVMInstRef, LLVMStruct, LLVMType};
 use llvm_core::types::LLVMTypeKind;
 
 // ---- values
 
-/// Whether a constant is no bytes, list or splat, which text does not read yet; a placeholder is refused by `check`.
-fn is_plain_const(kind: &LLVMConstKind) -> bool
-    ensures { result ≡ is_plain_const kind.now }
-{
-    match kind {
-        LLVMConstKind::Int(..) => true,
-        LLVMConstKind::Filled(..) => true,
-        LLVMConstKind::Placeholder(..) => true,
-        _ => false,
-    }
-}
-
-/// Whether a value is no constant that text does not read.
-fn is_plain_value(m: &LLVMModule, value: LLVMValue) -> bool
-    requires { IsValue m.now value }
-    ensures { result ≡ is_plain_value m.now value }
-{
-    match value {
-        LLVMValue::Const(c) => is_plain_const(m.const_kind(c)),
-        _ => true,
-    }
-}
-
-/// Whether a value is of a first class type, and no constant that text does not read.
+/// Whether a value is of a first class type.
 fn is_narrow_value(m: &LLVMModule, value: LLVMValue) -> bool
     requires { IsValue m.now value }
     ensures { result ≡ is_narrow_value m.now value }
 {
-    is_first_class_kind(m.type_kind(m.type_of(value))) && is_plain_value(m, value)
+    is_first_class_kind(m.type_kind(m.type_of(value)))
 }
 
 fn are_narrow_values(m: &LLVMModule, values: &[LLVMValue]) -> bool
@@ -77,7 +53,7 @@ fn are_narrow_entries(m: &LLVMModule, entries: &[PhiEntry]) -> bool
 // ---- instructions
 
 #[tactic(auto, using(crate::proofs::AllLaws::all_mapped))]
-/// Whether the operands of an instruction are of first class types, and no constants that text does not read.
+/// Whether the operands of an instruction are of first class types.
 fn has_narrow_operands(m: &LLVMModule, inst: &LLVMInst) -> bool
     requires { HasValues m.now inst.now }
     ensures { result ≡ list_all (is_narrow_value m.now) (operands inst.now) }

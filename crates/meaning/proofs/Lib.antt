@@ -1,5 +1,9 @@
 -- The lemmas of the crate.
 pub mod CodeLaws
+pub mod TermLaws
+pub mod FormedLaws
+pub mod ElementTermLaws
+pub mod InsertLaws
 pub mod ExampleLaws
 pub mod Naming
 pub mod Prefix

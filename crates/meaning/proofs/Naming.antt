@@ -5,11 +5,12 @@ use Rattle.kinds.specs.declared.op.Op.{Op}
 use Rattle.kinds.specs.declared.rules.Family.{Family}
 use Rattle.kinds.specs.declared.rules.Family.TheVariants.{Shows, Builds}
 use Rattle.kinds.specs.Types.{TypeTree}
-use Rattle.meaning.specs.Terms.{Match, family, made_by, silent, Term, Param, Answer, Unset, Int, Filled, ListOf, Expr, Insert, Terms, NoTerms, ThenTerm, Path, Places, PlaceOf, terms_of, rename, rename_all, rename_path, rename_type}
+use Rattle.meaning.specs.Terms.{Match, family, made_by, silent, Term, ThenTerm, terms_of, rename, rename_all, rename_type}
 use Rattle.meaning.specs.Machine.{Item, Entered, Event}
 use Rattle.meaning.specs.Code.{under}
 use Rattle.meaning.specs.Examples.{same_places}
 use Rattle.meaning.proofs.EntryLaws.{type_stays}
+use Rattle.meaning.proofs.TermLaws.{term_stays}
 
 -- ---- silent rows
 
@@ -30,24 +31,8 @@ rename-silent match o ty ts = rename-made_by match (family o) o ty ts
 map_same : {A : Type 0} (f : A → A) → ((x : A) → f x ≡ x) → (xs : List A) → map f xs ≡ xs
 map_same f h xs = ap (λ (g : _ → _). map g xs) (fun_ext h) ∙ map-id xs
 
-mutual
-  term_same : (t : Term) → rename same_places t ≡ t
-  term_same (Param i) = refl
-  term_same (Answer n) = refl
-  term_same Unset = refl
-  term_same (Int w v) = refl
-  term_same (Filled fill ty) = ap (Filled fill) (type_stays ty)
-  term_same (ListOf ty ts) = cc (type_stays ty, terms_same ts)
-  term_same (Expr o ty ts) = cc (type_stays ty, terms_same ts)
-  term_same (Insert ty a p e) = cc (type_stays ty, term_same a, path_same p, term_same e)
-
-  terms_same : (ts : Terms) → rename_all same_places ts ≡ ts
-  terms_same NoTerms = refl
-  terms_same (ThenTerm t ts) = cc (term_same t, terms_same ts)
-
-  path_same : (p : Path) → rename_path same_places p ≡ p
-  path_same (Places ns) = refl
-  path_same (PlaceOf t) = ap PlaceOf (term_same t)
+term_same : (t : Term) → rename same_places t ≡ t
+term_same t = term_stays same_places (λ n. refl) t
 
 item_same : (n : List ℕ) (i : Item) → under same_places n i ≡ i
 item_same n (Entered b) = refl

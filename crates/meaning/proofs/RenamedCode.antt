@@ -8,15 +8,16 @@ use Rattle.std.proofs.lemmas.List.{length-map}
 use Rattle.kinds.specs.Types.{TypeTree}
 use Rattle.kinds.specs.Structs.{renamed}
 use Rattle.llvm_core.specs.Data as L
-use Rattle.llvm_core.specs.Data.{IntConst, FilledConst, BytesConst, ListConst, SplatConst, PlaceholderConst, Instruction, Phi, Applied, Constant, Parameter, Result, Placed, ModuleData, operand_type, targets}
-use Rattle.meaning.specs.Terms.{Term, Param, Answer, Unset, Int, Filled, ListOf, Expr, Insert, Terms, NoTerms, ThenTerm, Path, Places, PlaceOf, Match, rename, rename_all, rename_path}
+use Rattle.llvm_core.specs.Data.{Instruction, Phi, Applied, Constant, Parameter, Result, Placed, ModuleData, operand_type, targets}
+use Rattle.meaning.specs.Terms.{Term, Param, Unset, Match, rename}
 use Rattle.meaning.specs.Machine.{Operand, Fixed, Applies, Row, Edge, Block, Item, Entered, Event, trace}
 use Rattle.meaning.specs.Setting.{Setting}
 use Rattle.meaning.specs.Code.{Code, Entry, Body, entry_of, IsOneToOne, SameBody, SameBodies, SameEntry, SameEntries, SameCode, IsDistinctNames, under as shown_under}
 use Rattle.meaning.specs.Llvm as Llvm
 use Rattle.meaning.specs.Llvm.{Key, ParamKey, ResultKey, same_key}
 use Rattle.meaning.specs.Renamed.{renamed_operand, renamed_phi_entry, renamed_instruction, renamed_placed, renamed_block, renamed_function, renamed_module}
-use Rattle.meaning.proofs.RenamedLaws.{map_twice, find_map, filter_map_map, flat_map_agree, renamed_operand_types, renamed_targets, arity_under, place_under, has_blocks_under, filled_under, renamed_type, renamed_types, renamed_symbol}
+use Rattle.meaning.proofs.RenamedLaws.{map_twice, find_map, filter_map_map, flat_map_agree, renamed_operand_types, renamed_targets, arity_under, place_under, has_blocks_under, names_match, renamed_type, renamed_types, renamed_symbol, term_under}
+use Rattle.meaning.proofs.TermLaws.{const_under}
 use Rattle.meaning.proofs.RenamedRuns.{item_as, operand_as, row_as, move_as, edge_as, block_as, trace_as}
 
 -- ---- the body of a function under other names
@@ -35,25 +36,16 @@ map_as k l g h [] = refl
 map_as k l g h (x ∷ xs) = rw (h x, map_as k l g h xs) refl
 
 module _ (to : List ℕ → List ℕ) where
-  -- the match that leaves blocks where they are, and says the other names
-  abbrev names_match : Match
-  names_match = record { block = λ n b. b; struct = to }
-
-  operand_under : (a : Setting) (o : L.Operand) → Llvm.operand a (renamed_operand to o) ≡ operand_as Key names_match (Llvm.operand a o)
-  operand_under a (Constant (IntConst w n)) = refl
-  operand_under a (Constant (FilledConst fill t)) = ap Fixed (sym (filled_under names_match fill t))
-  operand_under a (Constant (BytesConst bytes)) = refl
-  operand_under a (Constant (ListConst t cs)) = refl
-  operand_under a (Constant (SplatConst t c)) = refl
-  operand_under a (Constant (PlaceholderConst n t)) = refl
+  operand_under : (a : Setting) (o : L.Operand) → Llvm.operand a (renamed_operand to o) ≡ operand_as Key (names_match to) (Llvm.operand a o)
+  operand_under a (Constant c) = ap Fixed (sym (const_under (names_match to) a c))
   operand_under a (Parameter g i) = refl
   operand_under a (Result n) = refl
 
-  operands_under : (a : Setting) (os : List L.Operand) → map (Llvm.operand a) (map (renamed_operand to) os) ≡ map (operand_as Key names_match) (map (Llvm.operand a) os)
-  operands_under a os = map_twice (Llvm.operand a) (renamed_operand to) os ∙ map_as (λ (o : L.Operand). Llvm.operand a (renamed_operand to o)) (Llvm.operand a) (operand_as Key names_match) (operand_under a) os
+  operands_under : (a : Setting) (os : List L.Operand) → map (Llvm.operand a) (map (renamed_operand to) os) ≡ map (operand_as Key (names_match to)) (map (Llvm.operand a) os)
+  operands_under a os = map_twice (Llvm.operand a) (renamed_operand to) os ∙ map_as (λ (o : L.Operand). Llvm.operand a (renamed_operand to o)) (Llvm.operand a) (operand_as Key (names_match to)) (operand_under a) os
 
   row_under : (a : Setting) (f : L.Function) (p : Placed) (i : Instruction)
-      → Llvm.row a (renamed_function to f) (renamed_placed to p) (renamed_instruction to i) ≡ option_map (row_as Key names_match) (Llvm.row a f p i)
+      → Llvm.row a (renamed_function to f) (renamed_placed to p) (renamed_instruction to i) ≡ option_map (row_as Key (names_match to)) (Llvm.row a f p i)
   row_under a f p (Phi entries) = refl
   row_under a f p (Applied r) =
       let types = renamed_operand_types to f r.operands in
@@ -62,37 +54,37 @@ module _ (to : List ℕ → List ℕ) where
       ∙ ap (λ (os : List (Operand Key)). Some (record { action = Applies r.op (renamed to p.type) (map (renamed to) (map (operand_type f) r.operands)) os; result = ResultKey p.number })) operands
 
   rows_under : (a : Setting) (f : L.Function) (ps : List Placed)
-      → filter_map (λ (p : Placed). Llvm.row a (renamed_function to f) p p.instruction) (map (renamed_placed to) ps) ≡ map (row_as Key names_match) (filter_map (λ (p : Placed). Llvm.row a f p p.instruction) ps)
+      → filter_map (λ (p : Placed). Llvm.row a (renamed_function to f) p p.instruction) (map (renamed_placed to) ps) ≡ map (row_as Key (names_match to)) (filter_map (λ (p : Placed). Llvm.row a f p p.instruction) ps)
   rows_under a f ps =
       filter_map_map (renamed_placed to) (λ (p : Placed). Llvm.row a (renamed_function to f) p p.instruction) ps
-      ∙ filter_map_as (λ (p : Placed). Llvm.row a (renamed_function to f) (renamed_placed to p) (renamed_instruction to p.instruction)) (λ (p : Placed). Llvm.row a f p p.instruction) (row_as Key names_match) (λ p. row_under a f p p.instruction) ps
+      ∙ filter_map_as (λ (p : Placed). Llvm.row a (renamed_function to f) (renamed_placed to p) (renamed_instruction to p.instruction)) (λ (p : Placed). Llvm.row a f p p.instruction) (row_as Key (names_match to)) (λ p. row_under a f p p.instruction) ps
 
   source_under : (a : Setting) (e : Option (L.Operand × ℕ))
-      → option_map (λ (x : L.Operand × ℕ). Llvm.operand a x.0) (option_map (renamed_phi_entry to) e) ≡ option_map (operand_as Key names_match) (option_map (λ (x : L.Operand × ℕ). Llvm.operand a x.0) e)
+      → option_map (λ (x : L.Operand × ℕ). Llvm.operand a x.0) (option_map (renamed_phi_entry to) e) ≡ option_map (operand_as Key (names_match to)) (option_map (λ (x : L.Operand × ℕ). Llvm.operand a x.0) e)
   source_under a None = refl
   source_under a (Some e) = ap Some (operand_under a e.0)
 
-  entry_under : (a : Setting) (from : ℕ) (es : List (L.Operand × ℕ)) → Llvm.entry_for a from (map (renamed_phi_entry to) es) ≡ option_map (operand_as Key names_match) (Llvm.entry_for a from es)
+  entry_under : (a : Setting) (from : ℕ) (es : List (L.Operand × ℕ)) → Llvm.entry_for a from (map (renamed_phi_entry to) es) ≡ option_map (operand_as Key (names_match to)) (Llvm.entry_for a from es)
   entry_under a from es =
       ap (option_map (λ (x : L.Operand × ℕ). Llvm.operand a x.0)) (find_map (renamed_phi_entry to) (λ (e : L.Operand × ℕ). nat_eq e.1 from) es)
       ∙ source_under a (find (λ (e : L.Operand × ℕ). nat_eq e.1 from) es)
 
   move_under : (a : Setting) (from : ℕ) (p : Placed) (i : Instruction)
-      → Llvm.phi_move a from (record (renamed_placed to p) { instruction = renamed_instruction to i }) ≡ option_map (move_as Key names_match) (Llvm.phi_move a from (record p { instruction = i }))
+      → Llvm.phi_move a from (record (renamed_placed to p) { instruction = renamed_instruction to i }) ≡ option_map (move_as Key (names_match to)) (Llvm.phi_move a from (record p { instruction = i }))
   move_under a from p (Phi entries) = ap (λ (o : Option (Operand Key)). Some (ResultKey p.number, o)) (entry_under a from entries)
   move_under a from p (Applied r) = refl
 
-  moves_under : (a : Setting) (from : ℕ) (ps : List Placed) → filter_map (Llvm.phi_move a from) (map (renamed_placed to) ps) ≡ map (move_as Key names_match) (filter_map (Llvm.phi_move a from) ps)
+  moves_under : (a : Setting) (from : ℕ) (ps : List Placed) → filter_map (Llvm.phi_move a from) (map (renamed_placed to) ps) ≡ map (move_as Key (names_match to)) (filter_map (Llvm.phi_move a from) ps)
   moves_under a from ps =
       filter_map_map (renamed_placed to) (Llvm.phi_move a from) ps
-      ∙ filter_map_as (λ (p : Placed). Llvm.phi_move a from (renamed_placed to p)) (Llvm.phi_move a from) (move_as Key names_match) (λ p. move_under a from p p.instruction) ps
+      ∙ filter_map_as (λ (p : Placed). Llvm.phi_move a from (renamed_placed to p)) (Llvm.phi_move a from) (move_as Key (names_match to)) (λ p. move_under a from p p.instruction) ps
 
   moves_of : (a : Setting) (from : ℕ) (b : Option L.Block)
-      → option_map_or (λ (b : L.Block). filter_map (Llvm.phi_move a from) b.instructions) (option_map (renamed_block to) b) [] ≡ map (move_as Key names_match) (option_map_or (λ (b : L.Block). filter_map (Llvm.phi_move a from) b.instructions) b [])
+      → option_map_or (λ (b : L.Block). filter_map (Llvm.phi_move a from) b.instructions) (option_map (renamed_block to) b) [] ≡ map (move_as Key (names_match to)) (option_map_or (λ (b : L.Block). filter_map (Llvm.phi_move a from) b.instructions) b [])
   moves_of a from None = refl
   moves_of a from (Some b) = moves_under a from b.instructions
 
-  edge_under : (a : Setting) (f : L.Function) (from n : ℕ) → Llvm.edge a (renamed_function to f) from n ≡ edge_as Key names_match (Llvm.edge a f from n)
+  edge_under : (a : Setting) (f : L.Function) (from n : ℕ) → Llvm.edge a (renamed_function to f) from n ≡ edge_as Key (names_match to) (Llvm.edge a f from n)
   edge_under a f from n =
       let place = place_under to f.blocks n in
       let moves = ap (λ (o : Option L.Block). option_map_or (λ (b : L.Block). filter_map (Llvm.phi_move a from) b.instructions) o []) (find_map (renamed_block to) (λ (b : L.Block). nat_eq b.number n) f.blocks)
@@ -100,58 +92,39 @@ module _ (to : List ℕ → List ℕ) where
       ap (λ (i : ℕ). record (Llvm.edge a (renamed_function to f) from n) { to = i }) place
       ∙ ap (λ (ms : List (Key × Option (Operand Key))). record (Llvm.edge a f from n) { moves = ms }) moves
 
-  block_under : (a : Setting) (f : L.Function) (b : L.Block) → Llvm.block a (renamed_function to f) (renamed_block to b) ≡ block_as Key names_match (Llvm.block a f b)
+  block_under : (a : Setting) (f : L.Function) (b : L.Block) → Llvm.block a (renamed_function to f) (renamed_block to b) ≡ block_as Key (names_match to) (Llvm.block a f b)
   block_under a f b =
       let ts = flat_map_agree (λ (p : Placed). targets p.instruction) (renamed_placed to) (λ (p : Placed). targets p.instruction) (λ p. renamed_targets to p.instruction) b.instructions in
-      let edges = ap (map (Llvm.edge a (renamed_function to f) b.number)) ts ∙ map_as (Llvm.edge a (renamed_function to f) b.number) (Llvm.edge a f b.number) (edge_as Key names_match) (edge_under a f b.number) (flat_map (λ (p : Placed). targets p.instruction) b.instructions) in
+      let edges = ap (map (Llvm.edge a (renamed_function to f) b.number)) ts ∙ map_as (Llvm.edge a (renamed_function to f) b.number) (Llvm.edge a f b.number) (edge_as Key (names_match to)) (edge_under a f b.number) (flat_map (λ (p : Placed). targets p.instruction) b.instructions) in
       ap (λ (es : List (Edge Key)). record (Llvm.block a (renamed_function to f) (renamed_block to b)) { edges = es }) edges
-      ∙ ap (λ (rs : List (Row Key)). record (block_as Key names_match (Llvm.block a f b)) { rows = rs }) (rows_under a f b.instructions)
+      ∙ ap (λ (rs : List (Row Key)). record (block_as Key (names_match to) (Llvm.block a f b)) { rows = rs }) (rows_under a f b.instructions)
 
-  blocks_under : (a : Setting) (f : L.Function) → map (Llvm.block a (renamed_function to f)) (map (renamed_block to) f.blocks) ≡ map (block_as Key names_match) (map (Llvm.block a f) f.blocks)
+  blocks_under : (a : Setting) (f : L.Function) → map (Llvm.block a (renamed_function to f)) (map (renamed_block to) f.blocks) ≡ map (block_as Key (names_match to)) (map (Llvm.block a f) f.blocks)
   blocks_under a f =
       map_twice (Llvm.block a (renamed_function to f)) (renamed_block to) f.blocks
-      ∙ map_as (λ (b : L.Block). Llvm.block a (renamed_function to f) (renamed_block to b)) (Llvm.block a f) (block_as Key names_match) (block_under a f) f.blocks
+      ∙ map_as (λ (b : L.Block). Llvm.block a (renamed_function to f) (renamed_block to b)) (Llvm.block a f) (block_as Key (names_match to)) (block_under a f) f.blocks
 
-  start_under : (f : L.Function) (k : Key) → rename names_match (Llvm.start f k) ≡ Llvm.start (renamed_function to f) k
+  start_under : (f : L.Function) (k : Key) → rename (names_match to) (Llvm.start f k) ≡ Llvm.start (renamed_function to f) k
   start_under f (ParamKey g i) = by (nat_eq g f.number && nat_lt i (Llvm.arity f.type)) ∙ ap (λ (n : ℕ). if nat_eq g f.number && nat_lt i n then Param i else Unset) (sym (arity_under to f.type))
     where
-      by : (v : Bool) → rename names_match (if v then Param i else Unset) ≡ (if v then Param i else Unset)
+      by : (v : Bool) → rename (names_match to) (if v then Param i else Unset) ≡ (if v then Param i else Unset)
       by true = refl
       by false = refl
   start_under f (ResultKey n) = refl
 
   -- a run of the function under other names shows what one of the function shows, under those names
-  pub trace_under : (a : Setting) (f : L.Function) (choices : List ℕ) → map (item_as names_match) ((Llvm.body a f).trace choices) ≡ (Llvm.body a (renamed_function to f)).trace choices
+  pub trace_under : (a : Setting) (f : L.Function) (choices : List ℕ) → map (item_as (names_match to)) ((Llvm.body a f).trace choices) ≡ (Llvm.body a (renamed_function to f)).trace choices
   trace_under a f choices =
-      trace_as Key names_match same_key (Llvm.start f) (map (Llvm.block a f) f.blocks) choices
-      ∙ ap (λ (s : Key → Term). trace Key same_key s (map (block_as Key names_match) (map (Llvm.block a f) f.blocks)) choices) (fun_ext (start_under f))
+      trace_as Key (names_match to) same_key (Llvm.start f) (map (Llvm.block a f) f.blocks) choices
+      ∙ ap (λ (s : Key → Term). trace Key same_key s (map (block_as Key (names_match to)) (map (Llvm.block a f) f.blocks)) choices) (fun_ext (start_under f))
       ∙ ap (λ (bs : List (Block Key)). trace Key same_key (Llvm.start (renamed_function to f)) bs choices) (sym (blocks_under a f))
 
 -- ---- the same code
 
 module _ (to : List ℕ → List ℕ) (plain under : Match) (stays : (n : List ℕ) → plain.struct n ≡ n) (named : (n : List ℕ) → under.struct n ≡ to n) (places : (n : List ℕ) (b : ℕ) → plain.block n b ≡ under.block n b) where
-  mutual
-    term_under : (t : Term) → rename plain (rename (names_match to) t) ≡ rename under t
-    term_under (Param i) = refl
-    term_under (Answer n) = refl
-    term_under Unset = refl
-    term_under (Int w v) = refl
-    term_under (Filled fill ty) = ap (Filled fill) (renamed_type to plain under stays named ty)
-    term_under (ListOf ty ts) = cc (renamed_type to plain under stays named ty, terms_under ts)
-    term_under (Expr o ty ts) = cc (renamed_type to plain under stays named ty, terms_under ts)
-    term_under (Insert ty a p e) = cc (renamed_type to plain under stays named ty, term_under a, path_under p, term_under e)
-
-    terms_under : (ts : Terms) → rename_all plain (rename_all (names_match to) ts) ≡ rename_all under ts
-    terms_under NoTerms = refl
-    terms_under (ThenTerm t ts) = cc (term_under t, terms_under ts)
-
-    path_under : (p : Path) → rename_path plain (rename_path (names_match to) p) ≡ rename_path under p
-    path_under (Places ns) = refl
-    path_under (PlaceOf t) = ap PlaceOf (term_under t)
-
   term_list_under : (ts : List Term) → map (rename plain) (map (rename (names_match to)) ts) ≡ map (rename under) ts
   term_list_under [] = refl
-  term_list_under (t ∷ ts) = rw (term_under t, term_list_under ts) refl
+  term_list_under (t ∷ ts) = rw (term_under to plain under stays named t, term_list_under ts) refl
 
   item_under : (n : List ℕ) (i : Item) → shown_under plain n (item_as (names_match to) i) ≡ shown_under under n i
   item_under n (Entered b) = ap Entered (places n b)

@@ -5,19 +5,14 @@ use mathlib.Core.Path.{fun_ext}
 use Rattle.std.specs.List.{filter_map, flat_map, find, position_from, cons_option}
 use Rattle.std.specs.Option.{option_map, option_map_or}
 use Rattle.std.proofs.lemmas.List.{length-map, map-append}
-use Rattle.kinds.specs.declared.fill.Fill.{Fill}
-use Rattle.kinds.specs.declared.fitting.Shape.{Shape}
-use Rattle.kinds.specs.Fill.{is_own_fill}
-use Rattle.kinds.specs.Fitting.{width_of}
-use Rattle.kinds.specs.Held.{width_in}
-use Rattle.kinds.specs.Types.{TypeTree, VoidType, TypeTrees, NoTypes, ThenType, shape, takes_of, count_types}
+use Rattle.kinds.specs.Types.{TypeTree, VoidType, TypeTrees, NoTypes, ThenType, takes_of, count_types}
 use Rattle.kinds.specs.Structs.{renamed, renamed_all}
-use Rattle.kinds.proofs.RenamedLaws.{renamed_self, renamed_shape, renamed_takes, renamed_count}
+use Rattle.kinds.proofs.RenamedLaws.{renamed_self, renamed_takes, renamed_count}
 use Rattle.llvm_core.specs.Data as L
 use Rattle.llvm_core.specs.Data.{ConstTree, IntConst, FilledConst, BytesConst, ListConst, SplatConst, PlaceholderConst, RowData, Instruction, Phi, Applied, Constant, Parameter, Result, Placed, nth_type, param_type, operand_type, placed_in, targets}
 use Rattle.dialect_core.specs.Data as D
 use Rattle.dialect_core.specs.declared.ops.Value.{Value}
-use Rattle.meaning.specs.Terms.{Param, Unset, Int, Filled, Match, filled_term, rename, rename_type}
+use Rattle.meaning.specs.Terms.{Term, Param, Answer, Unset, Int, Filled, ListOf, SplatOf, Expr, Insert, Terms, NoTerms, ThenTerm, Path, Places, PlaceOf, Match, rename, rename_all, rename_path, rename_type}
 use Rattle.meaning.specs.Machine.{Operand, At, Fixed, Action, Holds, Applies, Row, Edge, Block}
 use Rattle.meaning.specs.Setting.{Setting}
 use Rattle.meaning.specs.Code.{rename_symbol}
@@ -26,7 +21,9 @@ use Rattle.meaning.specs.Llvm as Llvm
 use Rattle.meaning.specs.Llvm.{Key, ParamKey, ResultKey}
 use Rattle.meaning.specs.Dialect as Dialect
 use Rattle.meaning.specs.Shape.{Plan, StandsFor, SameAction, SameRow, SameMove, IsFront, SameEdge, SameBlock, SameBlocks, SameShape}
-use Rattle.meaning.specs.Renamed.{renamed_operand, renamed_phi_entry, renamed_row, renamed_instruction, renamed_placed, renamed_block, renamed_function}
+use Rattle.meaning.specs.Renamed.{renamed_const, renamed_operand, renamed_phi_entry, renamed_row, renamed_instruction, renamed_placed, renamed_block, renamed_function}
+use Rattle.meaning.proofs.TermLaws.{const_under}
+pub use Rattle.meaning.proofs.TermLaws.{filled_under}
 
 -- ---- types under a match
 
@@ -167,19 +164,11 @@ module _ (to : List ℕ → List ℕ) where
   pub has_blocks_under : (f : L.Function) → Llvm.has_blocks (renamed_function to f) ≡ Llvm.has_blocks f
   has_blocks_under f = ap (nat_lt 0) (length-map f.blocks (renamed_block to))
 
--- ---- terms
-
--- the term of zero, undef or poison, whose type names structs otherwise
-pub filled_under : (match : Match) (fill : Fill) (t : TypeTree) → rename match (filled_term fill t) ≡ filled_term fill (rename_type match t)
-filled_under match fill t =
-    by (is_own_fill fill (shape t))
-    ∙ ap (λ (s : Shape). if is_own_fill fill s then Filled fill (rename_type match t) else Int (width_of s) 0) (sym (renamed_shape match.struct t))
-  where
-    by : (b : Bool) → rename match (if b then Filled fill t else Int (width_in t) 0) ≡ (if b then Filled fill (rename_type match t) else Int (width_in t) 0)
-    by true = refl
-    by false = refl
-
 -- ---- the shape
+
+-- the match that leaves blocks where they are, and says the other names
+abbrev pub names_match : (List ℕ → List ℕ) → Match
+names_match to = record { block = λ n b. b; struct = to }
 
 -- a match that renames no struct, and one that says the other names, over the same places of blocks
 module _ (to : List ℕ → List ℕ) (plain under : Match) (stays : (n : List ℕ) → plain.struct n ≡ n) (named : (n : List ℕ) → under.struct n ≡ to n) where
@@ -190,27 +179,38 @@ module _ (to : List ℕ → List ℕ) (plain under : Match) (stays : (n : List �
   renamed_types [] = refl
   renamed_types (t ∷ ts) = rw (renamed_type t, renamed_types ts) refl
 
+  mutual
+    pub term_under : (t : Term) → rename plain (rename (names_match to) t) ≡ rename under t
+    term_under (Param i) = refl
+    term_under (Answer n) = refl
+    term_under Unset = refl
+    term_under (Int w v) = refl
+    term_under (Filled fill ty) = ap (Filled fill) (renamed_type ty)
+    term_under (ListOf ty ts) = cc (renamed_type ty, terms_under ts)
+    term_under (SplatOf ty t) = cc (renamed_type ty, term_under t)
+    term_under (Expr o ty ts) = cc (renamed_type ty, terms_under ts)
+    term_under (Insert ty a p e) = cc (renamed_type ty, term_under a, path_under p, term_under e)
+
+    terms_under : (ts : Terms) → rename_all plain (rename_all (names_match to) ts) ≡ rename_all under ts
+    terms_under NoTerms = refl
+    terms_under (ThenTerm t ts) = cc (term_under t, terms_under ts)
+
+    path_under : (p : Path) → rename_path plain (rename_path (names_match to) p) ≡ rename_path under p
+    path_under (Places ns) = refl
+    path_under (PlaceOf t) = ap PlaceOf (term_under t)
+
+  -- the term of a constant under other names
+  pub renamed_term : (a : Setting) (c : ConstTree) → rename plain (Llvm.const_term a (renamed_const to c)) ≡ rename under (Llvm.const_term a c)
+  renamed_term a c = ap (rename plain) (sym (const_under (names_match to) a c)) ∙ term_under (Llvm.const_term a c)
+
   pub renamed_symbol : (a : Setting) (f : L.Function) → rename_symbol plain (Llvm.entry a (renamed_function to f)).symbol ≡ rename_symbol under (Llvm.entry a f).symbol
   renamed_symbol a f = let t = renamed_type f.type in let b = has_blocks_under to f in cc
 
   module _ (plan : Plan) where
-    filled_same : (fill : Fill) (t : TypeTree) → rename plain (filled_term fill (renamed to t)) ≡ rename under (filled_term fill t)
-    filled_same fill t = filled_under plain fill (renamed to t) ∙ ap (filled_term fill) (renamed_type t) ∙ sym (filled_under under fill t)
-
     -- what stands for an operand of the function under other names stands for it
     stands : (a : Setting) (o : L.Operand) (v : Operand Value) → StandsFor plain plan (Llvm.operand a (renamed_operand to o)) v → StandsFor under plan (Llvm.operand a o) v
-    stands a (Constant (IntConst w n)) (At v) h = h
-    stands a (Constant (IntConst w n)) (Fixed u) h = h
-    stands a (Constant (FilledConst fill t)) (At v) h = (h.0, sym (filled_same fill t) ∙ h.1)
-    stands a (Constant (FilledConst fill t)) (Fixed u) h = sym (filled_same fill t) ∙ h
-    stands a (Constant (BytesConst bytes)) (At v) h = h
-    stands a (Constant (BytesConst bytes)) (Fixed u) h = h
-    stands a (Constant (ListConst t cs)) (At v) h = h
-    stands a (Constant (ListConst t cs)) (Fixed u) h = h
-    stands a (Constant (SplatConst t c)) (At v) h = h
-    stands a (Constant (SplatConst t c)) (Fixed u) h = h
-    stands a (Constant (PlaceholderConst n t)) (At v) h = h
-    stands a (Constant (PlaceholderConst n t)) (Fixed u) h = h
+    stands a (Constant c) (At v) h = (h.0, sym (renamed_term a c) ∙ h.1)
+    stands a (Constant c) (Fixed u) h = sym (renamed_term a c) ∙ h
     stands a (Parameter g i) (At v) h = h
     stands a (Parameter g i) (Fixed u) h = h
     stands a (Result n) (At v) h = h

@@ -6,7 +6,7 @@ use Rattle.std.proofs.lemmas.List.{map-append}
 use Rattle.std.proofs.lemmas.Option.{slice_get-map}
 use Rattle.kinds.specs.declared.op.Op.{Op}
 use Rattle.kinds.specs.Types.{TypeTree}
-use Rattle.meaning.specs.Terms.{Term, Param, Answer, Unset, Int, Filled, ListOf, Expr, Insert, Match, is_unset, silent, rename, rename_type}
+use Rattle.meaning.specs.Terms.{Term, Param, Answer, Unset, Int, Filled, ListOf, SplatOf, Expr, Insert, Match, is_unset, silent, rename, rename_type}
 use Rattle.meaning.specs.Machine.{Operand, At, Fixed, Action, Holds, Applies, Row, Edge, Block, Item, Entered, Event, State, read, read_move, set, set_in, reads, shows, answered, effect, apply, straight, moved, arrive, move, follow, take_edge, edge_of, jump, go_on, run, begin, enter_first, first, trace}
 use Rattle.meaning.proofs.Naming.{rename-silent}
 
@@ -17,6 +17,7 @@ unset_under match Unset = refl
 unset_under match (Int w v) = refl
 unset_under match (Filled fill ty) = refl
 unset_under match (ListOf ty ts) = refl
+unset_under match (SplatOf ty t) = refl
 unset_under match (Expr o ty ts) = refl
 unset_under match (Insert ty a p e) = refl
 

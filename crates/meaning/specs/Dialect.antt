@@ -3,7 +3,7 @@ use Rattle.std.specs.Prelude.{ℕ, zero, suc, Bool, ◌&&◌, if◌then◌else�
 use Rattle.std.specs.Option.{option_map_or}
 use Rattle.std.specs.List.{flat_map, filter_map, position_from, find}
 use Rattle.dialect_types.specs.Trees.{TypeTree, VoidType}
-use Rattle.const_attrs.specs.Trees.{AttrTree, IntegerAttr, FilledAttr, BytesAttr, AggregateAttr, SplatAttr}
+use Rattle.const_attrs.specs.Trees.{AttrTree, AttrTrees, IntegerAttr, FilledAttr, BytesAttr, AggregateAttr, SplatAttr, NoAttrs, ThenAttr}
 use Rattle.dialect_core.specs.declared.numbers.BlockRef.{BlockRef}
 use Rattle.dialect_core.specs.declared.ops.Value.{Value}
 use Rattle.dialect_core.specs.declared.ops.Value.TheVariants.{Result, Argument}
@@ -17,19 +17,25 @@ use Rattle.dialect_core.specs.WellFormed.{Typing}
 use Rattle.kinds.specs.declared.op.LLVMIntPredicate.{LLVMIntPredicate}
 use Rattle.kinds.specs.declared.op.LLVMIntPredicate.TheVariants as I
 use Rattle.kinds.specs.Held.{width_in}
-use Rattle.meaning.specs.Terms.{Term, Param, Unset, Int, filled_term}
+use Rattle.meaning.specs.Terms.{Term, Param, Unset, Int, Terms, NoTerms, ThenTerm, filled_term}
+use Rattle.meaning.specs.Constants.{bytes_term, list_term, lanes_term}
 use Rattle.meaning.specs.Machine.{Operand, At, Action, Holds, Applies, Row, Edge, Block, Item, trace}
 use Rattle.meaning.specs.Setting.{Setting, TellsNothing}
 use Rattle.meaning.specs.Code.{Code, Entry, Body, Symbol, FunctionSymbol, Linkage, External, AvailableExternally, LinkOnceAny, LinkOnceODR, WeakAny, WeakODR, Appending, Internal, Private, ExternalWeak, Common, Other}
 pub use Rattle.dialect_core.specs.Text.{same_value}
 
--- The term of a constant, a line for each kind. Those of lists are not said yet: an operation that is well-formed holds none.
-abbrev pub attr_term : Setting → AttrTree → Term
-attr_term setting (IntegerAttr ty n) = Int (width_in ty) n
-attr_term setting (FilledAttr fill ty) = filled_term fill ty
-attr_term setting (BytesAttr bytes) = Unset
-attr_term setting (AggregateAttr elements ty) = Unset
-attr_term setting (SplatAttr element ty) = Unset
+abbrev mutual
+  -- the term of a constant, a line for each kind
+  pub attr_term : Setting → AttrTree → Term
+  attr_term setting (IntegerAttr ty n) = Int (width_in ty) n
+  attr_term setting (FilledAttr fill ty) = filled_term fill ty
+  attr_term setting (BytesAttr bytes) = bytes_term bytes
+  attr_term setting (AggregateAttr elements ty) = list_term ty (attr_terms setting elements)
+  attr_term setting (SplatAttr element ty) = lanes_term ty (attr_term setting element)
+
+  pub attr_terms : Setting → AttrTrees → Terms
+  attr_terms setting NoAttrs = NoTerms
+  attr_terms setting (ThenAttr c cs) = ThenTerm (attr_term setting c) (attr_terms setting cs)
 
 -- ---- types of operands
 

@@ -5,6 +5,9 @@ use Rattle.llvm_core.specs.Data.{VoidType, IntType, FunctionType, NoTypes, ThenT
 use Rattle.kinds.specs.declared.op.Op.{Op}
 use Rattle.kinds.specs.declared.op.Op.TheVariants as O
 use Rattle.kinds.specs.declared.op.OverflowFlags.{OverflowFlags}
+use Rattle.kinds.specs.declared.types.StructLayout.TheVariants.{Unpacked}
+use Rattle.kinds.specs.Structs.{Struct}
+use Rattle.kinds.specs.Types.{TypeTree, TypeTrees, StructType, NamedType}
 use Rattle.dialect_types.specs.Trees as T
 use Rattle.const_attrs.specs.Trees as A
 use Rattle.dialect_core.specs.declared.ops.Value.TheVariants as V
@@ -116,6 +119,27 @@ same_places = record { block = λ n b. b; struct = λ s. s }
 -- a list of two bytes, of types that nothing reads
 abbrev pub pair_of : Term → Term → Term
 pair_of a b = ListOf VoidType (ThenTerm a (ThenTerm b NoTerms))
+
+-- { i8, i16 }
+abbrev pub two_ints : TypeTrees
+two_ints = ThenType (IntType 8) (ThenType (IntType 16) NoTypes)
+
+abbrev pub both_ints : TypeTree
+both_ints = StructType Unpacked two_ints
+
+-- the elements of both_ints
+abbrev pub ints_of : Term → Term → Term
+ints_of a b = ListOf both_ints (ThenTerm a (ThenTerm b NoTerms))
+
+-- %s = type { i8, i16 }, and %t, of which nothing is told
+abbrev pub two_structs : List Struct
+two_structs = record { name = codes "s"; body = Some (record { fields = two_ints; layout = Unpacked }) } ∷ record { name = codes "t"; body = None } ∷ []
+
+abbrev pub told_type : TypeTree
+told_type = NamedType (codes "s")
+
+abbrev pub untold_type : TypeTree
+untold_type = NamedType (codes "t")
 
 -- define i32 @g(i32 %a, i32 %b) { %s = add nsw i32 %a, %b ; %t = add i32 %s, 5 ; ret i32 %t }
 abbrev pub sums : L.Function

@@ -3,6 +3,8 @@ pub mod Terms
 pub mod Machine
 pub mod Setting
 pub mod Code
+pub mod Constants
+pub mod Insert
 pub mod Llvm
 pub mod Renamed
 pub mod Dialect

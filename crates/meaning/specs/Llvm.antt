@@ -5,22 +5,27 @@ use Rattle.std.specs.List.{flat_map, filter_map, position_from, find}
 use Rattle.kinds.specs.Types.{TypeTree, takes_of, count_types}
 use Rattle.kinds.specs.Names.{is_intrinsic_name}
 use Rattle.llvm_core.specs.Data as L
-use Rattle.llvm_core.specs.Data.{ConstTree, IntConst, FilledConst, BytesConst, ListConst, SplatConst, PlaceholderConst, RowData, Instruction, Phi, Applied as AppliedRow, Constant, Parameter, Result, Placed, ModuleData, operand_type, targets, phi_entries}
+use Rattle.llvm_core.specs.Data.{ConstTree, IntConst, FilledConst, BytesConst, ListConst, SplatConst, PlaceholderConst, ConstTrees, NoConsts, ThenConst, RowData, Instruction, Phi, Applied as AppliedRow, Constant, Parameter, Result, Placed, ModuleData, operand_type, targets, phi_entries}
 use Rattle.llvm_core.specs.Form.{operands_of}
-use Rattle.meaning.specs.Terms.{Term, Param, Unset, Int, filled_term}
+use Rattle.meaning.specs.Terms.{Term, Param, Unset, Int, Terms, NoTerms, ThenTerm, filled_term}
+use Rattle.meaning.specs.Constants.{bytes_term, list_term, splat_term}
 use Rattle.meaning.specs.Machine.{Operand, At, Fixed, Action, Applies, Row, Edge, Block, Item, trace}
 use Rattle.meaning.specs.Setting.{Setting, TellsNothing}
 use Rattle.meaning.specs.Code.{Code, Entry, Body, Symbol, FunctionSymbol, External}
 
--- The term of a constant of the module, a line for each kind. Those of bytes, lists and splats are not said yet: no module of the
--- form uses one.
-abbrev pub const_term : Setting → ConstTree → Term
-const_term setting (IntConst w n) = Int w n
-const_term setting (FilledConst fill ty) = filled_term fill ty
-const_term setting (BytesConst bytes) = Unset
-const_term setting (ListConst ty elements) = Unset
-const_term setting (SplatConst ty element) = Unset
-const_term setting (PlaceholderConst n ty) = Unset
+abbrev mutual
+  -- the term of a constant of the module, a line for each kind
+  pub const_term : Setting → ConstTree → Term
+  const_term setting (IntConst w n) = Int w n
+  const_term setting (FilledConst fill ty) = filled_term fill ty
+  const_term setting (BytesConst bytes) = bytes_term bytes
+  const_term setting (ListConst ty elements) = list_term ty (const_terms setting elements)
+  const_term setting (SplatConst ty element) = splat_term ty (const_term setting element)
+  const_term setting (PlaceholderConst n ty) = Unset
+
+  pub const_terms : Setting → ConstTrees → Terms
+  const_terms setting NoConsts = NoTerms
+  const_terms setting (ThenConst c cs) = ThenTerm (const_term setting c) (const_terms setting cs)
 
 -- what sets a term in a run: a parameter of a function, or the result of an instruction
 pub data Key : Type 0 where

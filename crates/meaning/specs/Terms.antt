@@ -1,6 +1,6 @@
 -- Terms: what the operands of a run stand for, and what each silent row makes of its operands.
 -- Types are the trees of module data, for both sides.
-use Rattle.std.specs.Prelude.{ℕ, zero, suc, Bool, true, false, List, [], ◌∷◌, Option, Some, None, map, if◌then◌else◌}
+use Rattle.std.specs.Prelude.{ℕ, Bool, true, false, List, [], ◌∷◌, Option, Some, None, if◌then◌else◌}
 use Rattle.kinds.specs.declared.fill.Fill.{Fill}
 use Rattle.kinds.specs.declared.op.Op.{Op}
 use Rattle.kinds.specs.declared.rules.Family.{Family}
@@ -26,6 +26,8 @@ mutual
     Filled : (fill : Fill) (type : TypeTree) → Term
     -- an aggregate by its elements
     ListOf : (type : TypeTree) (elements : Terms) → Term
+    -- a scalable vector, each lane of which is that
+    SplatOf : (type : TypeTree) (lane : Term) → Term
     -- an expression of a silent row
     Expr : (op : Op) (type : TypeTree) (operands : Terms) → Term
     -- an aggregate with an element put in, where the aggregate is not known by its elements
@@ -51,41 +53,6 @@ filled_term fill type = if is_own_fill fill (shape type) then Filled fill type e
 abbrev pub is_unset : Term → Bool
 is_unset Unset = true
 is_unset _ = false
-
--- ---- insert
-
-abbrev pub term_at : Terms → ℕ → Option Term
-term_at NoTerms n = None
-term_at (ThenTerm t ts) zero = Some t
-term_at (ThenTerm t ts) (suc n) = term_at ts n
-
-abbrev pub with_term_at : Terms → ℕ → Term → Terms
-with_term_at NoTerms n u = NoTerms
-with_term_at (ThenTerm t ts) zero u = ThenTerm u ts
-with_term_at (ThenTerm t ts) (suc n) u = ThenTerm t (with_term_at ts n u)
-
-abbrev pub elements_of : Term → Option (TypeTree × Terms)
-elements_of (ListOf ty ts) = Some (ty, ts)
-elements_of _ = None
-
--- the element at a place of a list is replaced by what stands inside it; a place past the end replaces nothing
-abbrev pub replaced : TypeTree → Terms → ℕ → Option Term → (Term → Term) → Term → Term
-replaced ty ts n (Some old) inside otherwise = ListOf ty (with_term_at ts n (inside old))
-replaced ty ts n None inside otherwise = otherwise
-
-abbrev pub replaced_in : Option (TypeTree × Terms) → ℕ → (Term → Term) → Term → Term
-replaced_in (Some l) n inside otherwise = replaced l.0 l.1 n (term_at l.1 n) inside otherwise
-replaced_in None n inside otherwise = otherwise
-
-abbrev pub places_of : List (TypeTree × ℕ) → List ℕ
-places_of path = map (λ (p : TypeTree × ℕ). p.1) path
-
--- The aggregate with the element at the end of the path, whose places each stand beside the type that
--- they are a place of. Where the aggregate is a list and the first place is below its length, its
--- element there is replaced; otherwise the insertion stands as a term.
-abbrev pub put : Term → List (TypeTree × ℕ) → Term → Term
-put a [] e = e
-put a (p ∷ path) e = replaced_in (elements_of a) p.1 (λ old. put old path e) (Insert p.0 a (Places (places_of (p ∷ path))) e)
 
 -- ---- silent and event
 
@@ -123,6 +90,7 @@ abbrev mutual
   rename match (Int w v) = Int w v
   rename match (Filled fill ty) = Filled fill (rename_type match ty)
   rename match (ListOf ty ts) = ListOf (rename_type match ty) (rename_all match ts)
+  rename match (SplatOf ty t) = SplatOf (rename_type match ty) (rename match t)
   rename match (Expr o ty ts) = Expr o (rename_type match ty) (rename_all match ts)
   rename match (Insert ty a p e) = Insert (rename_type match ty) (rename match a) (rename_path match p) (rename match e)
 

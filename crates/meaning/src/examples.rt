@@ -2,7 +2,9 @@
 
 ghost use Rattle.std.specs.Prelude.{◌≡◌, ◌∷◌, [], true, false, codes, map};
 ghost use Rattle.llvm_core.specs.Data.{VoidType, IntType, FunctionType, NoTypes};
-ghost use Rattle.meaning.specs.Terms.{Param, Int, Unset, Insert, Places, put};
+ghost use Rattle.kinds.specs.declared.fill.Fill.TheVariants as fill;
+ghost use Rattle.meaning.specs.Terms.{Param, Int, Unset, Filled, ListOf, Insert, Places, ThenTerm, NoTerms};
+ghost use Rattle.meaning.specs.Insert.{put};
 ghost use Rattle.meaning.specs.Machine.{Entered, reads_unset};
 ghost use Rattle.meaning.specs.Code.{SameCode, FunctionSymbol, External};
 ghost use Rattle.meaning.specs.Llvm as llvm;
@@ -10,7 +12,7 @@ ghost use Rattle.meaning.specs.Dialect as dialect;
 ghost use Rattle.dialect_core.specs.declared.ops.Value.{Value};
 ghost use Rattle.meaning.specs.Shape.{SameShape};
 ghost use Rattle.meaning.specs.Woven.{WovenShape, SetsConstantsFirst, func_reads_unset};
-ghost use Rattle.meaning.specs.Examples.{answer, answer_dialect, echo_module, same_places, pair_of, sums, sums_module, sums_func, sums_dialect, wraps, no_signed, sum_of, swap_module, swap_dialect, branched, tested, gave, lacking_module, lacking_dialect, lacking, lacking_func};
+ghost use Rattle.meaning.specs.Examples.{answer, answer_dialect, echo_module, same_places, pair_of, both_ints, ints_of, two_structs, told_type, untold_type, sums, sums_module, sums_func, sums_dialect, wraps, no_signed, sum_of, swap_module, swap_dialect, branched, tested, gave, lacking_module, lacking_dialect, lacking, lacking_func};
 ghost use Rattle.meaning.specs.WovenExamples.{late, late_module, late_func, late_dialect, plus, plus_one, mixed_func, mixed_dialect};
 
 /// `define i32 @f() { ret i32 7 }`, its symbol, its trace on both sides, and that the two have the same code.
@@ -25,10 +27,20 @@ pub fn answer_means()
 /// A parameter is its term, and an insertion replaces the element at the end of its path or stands as it is.
 pub fn echo_and_put()
     ensures parameter { llvm.traces_of echo_module [] ≡ (Entered 0 ∷ gave 8 (Param 0) ∷ []) ∷ [] }
-    ensures replaced { put (pair_of (Int 8 1) (Int 8 2)) ((VoidType, 1) ∷ []) (Int 8 9) ≡ pair_of (Int 8 1) (Int 8 9) }
-    ensures deep { put (pair_of Unset (pair_of (Int 8 1) Unset)) ((VoidType, 1) ∷ (VoidType, 0) ∷ []) (Int 8 9) ≡ pair_of Unset (pair_of (Int 8 9) Unset) }
-    ensures past_the_end { put (pair_of Unset Unset) ((VoidType, 2) ∷ []) (Int 8 9) ≡ Insert VoidType (pair_of Unset Unset) (Places (2 ∷ [])) (Int 8 9) }
-    ensures unknown { put (Param 0) ((IntType 8, 1) ∷ []) (Int 8 9) ≡ Insert (IntType 8) (Param 0) (Places (1 ∷ [])) (Int 8 9) }
+    ensures replaced { put [] (pair_of (Int 8 1) (Int 8 2)) ((VoidType, 1) ∷ []) (Int 8 9) ≡ pair_of (Int 8 1) (Int 8 9) }
+    ensures deep { put [] (pair_of Unset (pair_of (Int 8 1) Unset)) ((VoidType, 1) ∷ (VoidType, 0) ∷ []) (Int 8 9) ≡ pair_of Unset (pair_of (Int 8 9) Unset) }
+    ensures past_the_end { put [] (pair_of Unset Unset) ((VoidType, 2) ∷ []) (Int 8 9) ≡ Insert VoidType (pair_of Unset Unset) (Places (2 ∷ [])) (Int 8 9) }
+    ensures unknown { put [] (Param 0) ((IntType 8, 1) ∷ []) (Int 8 9) ≡ Insert (IntType 8) (Param 0) (Places (1 ∷ [])) (Int 8 9) }
+{}
+
+/// A zero, undef or poison of a type that has elements opens up, and what is zero in each element is folded up again. So it is with a
+/// struct by its name where its fields are told; into another the insertion stands as a term.
+pub fn opened_and_folded()
+    ensures opened { put [] (Filled fill.Zero both_ints) ((both_ints, 0) ∷ []) (Int 8 9) ≡ ints_of (Int 8 9) (Int 16 0) }
+    ensures folded { put [] (ints_of (Int 8 0) (Filled fill.Undef (IntType 16))) ((both_ints, 1) ∷ []) (Int 16 0) ≡ Filled fill.Zero both_ints }
+    ensures same { put [] (Filled fill.Zero both_ints) ((both_ints, 1) ∷ []) (Int 16 0) ≡ Filled fill.Zero both_ints }
+    ensures told { put two_structs (Filled fill.Poison told_type) ((told_type, 0) ∷ []) (Param 0) ≡ ListOf told_type (ThenTerm (Param 0) (ThenTerm (Filled fill.Poison (IntType 16)) NoTerms)) }
+    ensures untold { put two_structs (Filled fill.Poison untold_type) ((untold_type, 0) ∷ []) (Param 0) ≡ Insert untold_type (Filled fill.Poison untold_type) (Places (0 ∷ [])) (Param 0) }
 {}
 
 /// `define i32 @g(i32 %a, i32 %b) { %s = add nsw i32 %a, %b ; %t = add i32 %s, 5 ; ret i32 %t }`,

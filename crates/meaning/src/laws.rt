@@ -1,10 +1,15 @@
 //! Laws of the definitions, each on a function that makes no call.
 
-ghost use Rattle.std.specs.Prelude.{◌≡◌, ◌++◌, ℕ, List, Some, map};
+ghost use Rattle.std.specs.Prelude.{◌≡◌, ◌++◌, ◌∷◌, [], ℕ, List, Some, map};
 ghost use Rattle.meaning.specs.Terms.{Match, Term};
 ghost use Rattle.meaning.specs.Pairs.{Matched};
 ghost use Rattle.meaning.specs.Setting.{Setting};
-ghost use Rattle.llvm_core.specs.Data.{Function};
+ghost use Rattle.meaning.specs.Insert.{MayStand, put};
+ghost use Rattle.kinds.specs.Structs.{Struct};
+ghost use Rattle.llvm_core.specs.Data.{ConstTree, Function, const_type};
+ghost use Rattle.llvm_core.specs.Elements.{HasElements};
+ghost use Rattle.llvm_core.specs.Form.{IsFormConst};
+ghost use Rattle.llvm_core.specs.Inserted.{inserted};
 ghost use Rattle.dialect_types.specs.Trees.{type_trees};
 ghost use Rattle.dialect_core.specs.ContextData.{ContextData};
 ghost use Rattle.dialect_core.specs.Data.{Func, func_in, type_in};
@@ -68,4 +73,10 @@ pub fn prefix_law()
 pub fn predicates_law()
     ensures one_to_one { (p q : ICmpPredicateAttr) → predicate_of p ≡ predicate_of q → p ≡ q }
     ensures onto { (q : LLVMIntPredicate) → (p : ICmpPredicateAttr) × (predicate_of p ≡ q) }
+{}
+
+/// The constant of LLVM with another element at one place has the term into which that of the element is put: what a
+/// constant opens into is folded up again on terms as it is on constants.
+pub fn inserted_law()
+    ensures { (structs : List Struct) → (c : ConstTree) → (place : ℕ) → (x d : ConstTree) → (setting : Setting) → IsFormConst c → HasElements structs c → MayStand structs (const_type c) place x → inserted structs c place x ≡ Some d → put structs (llvm.const_term setting c) ((const_type c, place) ∷ []) (llvm.const_term setting x) ≡ llvm.const_term setting d }
 {}

@@ -9,7 +9,6 @@ use Rattle.std.proofs.lemmas.Option.{slice_get-map}
 use Rattle.std.proofs.lemmas.List.Elements.{All-map, All-weaker}
 use Rattle.kinds.specs.declared.rules.Takes.{Takes}
 use Rattle.kinds.specs.declared.rules.Takes.TheVariants as O
-use Rattle.kinds.specs.Fill.{is_own_fill}
 use Rattle.kinds.specs.Rules.{operand_count}
 use Rattle.kinds.specs.Table.{rule_of}
 use Rattle.kinds.specs.Types.{TypeTree, VoidType, types_list, result_of, params_of}
@@ -17,7 +16,7 @@ use Rattle.kinds.specs.Held.{is_void, IsFirstClass, IsHeldResult}
 use Rattle.kinds.specs.Typing.{fits_trees, typed}
 use Rattle.kinds.specs.Structs.{renamed, renamed_all}
 use Rattle.kinds.proofs.HeldLaws.{void_is, void_if}
-use Rattle.kinds.proofs.RenamedLaws.{renamed_shape, renamed_list, renamed_count, renamed_result, renamed_params, renamed_void, renamed_shallow, renamed_first_class, renamed_returned, renamed_held_result}
+use Rattle.kinds.proofs.RenamedLaws.{renamed_list, renamed_count, renamed_result, renamed_params, renamed_void, renamed_shallow, renamed_first_class, renamed_returned, renamed_held_result}
 use Rattle.support.specs.Interned.{IsDistinctList}
 use Rattle.llvm_core.specs.Data.{ConstTree, IntConst, FilledConst, BytesConst, ListConst, SplatConst, PlaceholderConst, ConstTrees, NoConsts, ThenConst, Operand, Constant, Parameter, Result, RowData, Instruction, Phi, Applied, Placed, Block, Function, operand_type, placed_in, targets}
 use Rattle.llvm_core.specs.Edges.{count_of}
@@ -25,6 +24,7 @@ use Rattle.llvm_core.specs.Checked.{ends_in_only}
 use Rattle.llvm_core.specs.Form.{operands_of, constant_type, constant_types, IsOperandOf, IsOperand, targets_of, edges_between, IsTarget, FitsEdges, IsReturning, returns_void, types_of, IsFormRow, IsFormInstruction, IsFormPlaced, is_last, is_phi, HasPhisFirst, IsFormBlock, IsFormFunction, value_types, IsHeldFunction, IsShortConst, AreShort, IsShortOperand}
 use Rattle.meaning.specs.Renamed.{renamed_const, renamed_consts, renamed_operand, renamed_phi_entry, renamed_row, renamed_instruction, renamed_placed, renamed_block, renamed_function}
 use Rattle.meaning.proofs.RenamedLaws.{map_twice, flat_map_agree, renamed_placed_in, renamed_operand_type, renamed_operand_types, renamed_targets}
+use Rattle.renamed_source.proofs.ConstLaws.{const_form}
 use Rattle.renamed_source.proofs.DataLaws.{map_both, joined_mapped}
 use Rattle.renamed_source.proofs.FittingLaws.{fits_renamed, typed_renamed, unwrapped}
 
@@ -81,7 +81,7 @@ module _ (to : List ℕ → List ℕ) where
   constant_type_under (Parameter g i) = refl
   constant_type_under (Result n) = refl
 
-  operands_under : (i : Instruction) → operands_of (renamed_instruction to i) ≡ map (renamed_operand to) (operands_of i)
+  pub operands_under : (i : Instruction) → operands_of (renamed_instruction to i) ≡ map (renamed_operand to) (operands_of i)
   operands_under (Phi es) = map_both (λ (e : Operand × ℕ). e.0) (renamed_phi_entry to) (renamed_operand to) (λ (e : Operand × ℕ). e.0) (λ e. refl) es
   operands_under (Applied r) = refl
 
@@ -111,7 +111,7 @@ module _ (to : List ℕ → List ℕ) where
     const_short (FilledConst fill t) h = tt
     const_short (BytesConst bytes) h = tt
     const_short (ListConst t cs) h = consts_short cs h
-    const_short (SplatConst t c) h = const_short c h
+    const_short (SplatConst t c) h = absurd h
     const_short (PlaceholderConst n t) h = tt
 
     consts_short : (cs : ConstTrees) → AreShort cs → AreShort (renamed_consts to cs)
@@ -123,7 +123,7 @@ module _ (to : List ℕ → List ℕ) where
   operand_short (Parameter g i) h = tt
   operand_short (Result n) h = tt
 
-  -- the integer constants that an instruction uses have at most 64 bits
+  -- the constants that an instruction uses are translated
   abbrev HasShort : Placed → Type 0
   HasShort p = All IsShortOperand (operands_of p.instruction)
 
@@ -139,12 +139,7 @@ module _ (to : List ℕ → List ℕ) where
   -- ---- operands
 
   operand_of : (f : Function) (o : Operand) → IsOperandOf f o → IsOperandOf (renamed_function to f) (renamed_operand to o)
-  operand_of f (Constant (IntConst w v)) h = h
-  operand_of f (Constant (FilledConst fill t)) h = ap (is_own_fill fill) (renamed_shape to t) ∙ h
-  operand_of f (Constant (BytesConst bytes)) h = absurd h
-  operand_of f (Constant (ListConst t cs)) h = absurd h
-  operand_of f (Constant (SplatConst t c)) h = absurd h
-  operand_of f (Constant (PlaceholderConst n t)) h = absurd h
+  operand_of f (Constant c) h = const_form to c h
   operand_of f (Parameter g i) h = h
   operand_of f (Result n) h =
       (h.0, renamed_placed to h.1, ap (λ (ps : List Placed). slice_get ps h.0) (renamed_placed_in to f) ∙ slice_get-map (renamed_placed to) (placed_in f) h.0 ∙ ap (option_map (renamed_placed to)) h.2, h.3)

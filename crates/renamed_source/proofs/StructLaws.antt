@@ -1,8 +1,7 @@
 -- A module under other names of structs: which struct a name means there, that the module is of the form, and that its types hold
 -- no more of what the dialect lacks.
-use Rattle.std.proofs.Common.{◌≡◌, ℕ, Bool, true, refl, ap, sym, subst, ◌∙◌, List, [], ◌∷◌, ◌++◌, map, slice_get, Option, Some, None, bytes_eq, All}
-use mathlib.Core.Path.{fun_ext}
-use Rattle.std.specs.List.{find, flat_map}
+use Rattle.std.proofs.Common.{◌≡◌, ℕ, Bool, true, refl, ap, sym, subst, ◌∙◌, List, [], ◌∷◌, ◌++◌, map, slice_get, Option, Some, None, All}
+use Rattle.std.specs.List.{flat_map}
 use Rattle.std.specs.Option.{option_map, option_map_or}
 use Rattle.std.proofs.lemmas.List.{map-append}
 use Rattle.kinds.specs.declared.types.OtherType.{OtherType}
@@ -12,13 +11,14 @@ use Rattle.kinds.specs.Held.{deepest, each_throughout}
 use Rattle.kinds.specs.Names.{is_good_name}
 use Rattle.kinds.specs.Structs.{StructBody, Struct, struct_in, IsNested, renamed, renamed_body, renamed_struct, Holds, Itself, InPart, InField, IsFormStruct}
 use Rattle.kinds.proofs.RenamedLaws.{IsMatched, renamed_list, renamed_each, renamed_nests}
-use Rattle.llvm_core.specs.Data.{Placed, Function, ModuleData, placed_in}
-use Rattle.llvm_core.specs.Form.{constant_types, IsFormFunction, IsForm, types_in, value_types}
-use Rattle.meaning.specs.Renamed.{renamed_placed, renamed_function, renamed_module}
-use Rattle.meaning.proofs.RenamedLaws.{find_map, renamed_placed_in}
+use Rattle.llvm_core.specs.Data.{Operand, Constant, Parameter, Result, Placed, Function, ModuleData, placed_in}
+use Rattle.llvm_core.specs.Form.{constant_types, operands_of, HasMadeOperands, IsFormFunction, IsForm, IsMadeOperand, types_in, value_types}
+use Rattle.meaning.specs.Renamed.{renamed_operand, renamed_placed, renamed_function, renamed_module}
+use Rattle.meaning.proofs.RenamedLaws.{renamed_placed_in}
+pub use Rattle.renamed_source.proofs.ConstLaws.{renamed_struct_in}
+use Rattle.renamed_source.proofs.ConstLaws.{const_elements}
 use Rattle.renamed_source.proofs.DataLaws.{map_both, joined_mapped}
-use Rattle.renamed_source.proofs.FittingLaws.{names_apart}
-use Rattle.renamed_source.proofs.FormLaws.{mapped_all, get_from, result_types, constants_under, renamed_value_types, renamed_form}
+use Rattle.renamed_source.proofs.FormLaws.{mapped_all, get_from, operands_under, result_types, constants_under, renamed_value_types, renamed_form}
 
 some_from : {X Y : Type 0} (g : X → Y) (o : Option X) (y : Y) → option_map g o ≡ Some y → (x : X) × (o ≡ Some x) × (g x ≡ y)
 some_from g None y e = cc
@@ -68,24 +68,38 @@ module _ (to : List ℕ → List ℕ) where
 -- ---- structs by name
 
 module _ (to : List ℕ → List ℕ) (apart : (a b : List ℕ) → to a ≡ to b → a ≡ b) where
-  -- the struct of a name stands under its other name among the others
-  pub renamed_struct_in : (structs : List Struct) (n : List ℕ) → struct_in (map (renamed_struct to) structs) (to n) ≡ option_map (renamed_struct to) (struct_in structs n)
-  renamed_struct_in structs n =
-      find_map (renamed_struct to) (λ (s : Struct). bytes_eq s.name (to n)) structs
-      ∙ ap (λ (p : Struct → Bool). option_map (renamed_struct to) (find p structs)) (fun_ext (λ s. names_apart to apart s.name n (bytes_eq (to s.name) (to n)) (bytes_eq s.name n) refl refl))
-
   is_matched : (structs : List Struct) (n : List ℕ) → IsMatched to structs (map (renamed_struct to) structs) n
-  is_matched structs n s is = renamed_struct_in structs n ∙ ap (option_map (renamed_struct to)) is
+  is_matched structs n s is = renamed_struct_in to apart structs n ∙ ap (option_map (renamed_struct to)) is
 
   -- no type nests deeper under other names
   pub renamed_nested : (structs : List Struct) (t : TypeTree) → IsNested structs t → IsNested (map (renamed_struct to) structs) (renamed to t)
   renamed_nested structs t h = renamed_nests to structs (map (renamed_struct to) structs) deepest t (λ n inside. is_matched structs n) h
+
+  -- constants have the elements that their types ask for
+  operand_made : (structs : List Struct) (o : Operand) → IsMadeOperand structs o → IsMadeOperand (map (renamed_struct to) structs) (renamed_operand to o)
+  operand_made structs (Constant c) h = const_elements to apart structs c h
+  operand_made structs (Parameter g i) h = tt
+  operand_made structs (Result n) h = tt
+
+  abbrev HasMade : List Struct → Placed → Type 0
+  HasMade structs p = All (IsMadeOperand structs) (operands_of p.instruction)
+
+  placed_made : (structs : List Struct) (p : Placed) → HasMade structs p → HasMade (map (renamed_struct to) structs) (renamed_placed to p)
+  placed_made structs p h =
+      subst (All (IsMadeOperand (map (renamed_struct to) structs))) (sym (operands_under to p.instruction))
+      (mapped_all (IsMadeOperand structs) (IsMadeOperand (map (renamed_struct to) structs)) (renamed_operand to) (operand_made structs) (operands_of p.instruction) h)
+
+  pub renamed_made : (structs : List Struct) (f : Function) → HasMadeOperands structs f → HasMadeOperands (map (renamed_struct to) structs) (renamed_function to f)
+  renamed_made structs f h =
+      subst (All (HasMade (map (renamed_struct to) structs))) (sym (renamed_placed_in to f))
+      (mapped_all (HasMade structs) (HasMade (map (renamed_struct to) structs)) (renamed_placed to) (placed_made structs) (placed_in f) h)
 
   -- a module of the form is one under names that are apart, and that a text can say
   pub renamed_module_form : ((n : List ℕ) → is_good_name n ≡ true → is_good_name (to n) ≡ true) → (d : ModuleData) → IsForm d → IsForm (renamed_module to d)
   renamed_module_form good d h = record {
     functions = mapped_all IsFormFunction IsFormFunction (renamed_function to) (renamed_form to apart) d.functions h.functions;
     structs = mapped_all IsFormStruct IsFormStruct (renamed_struct to) (renamed_struct_form to good) d.structs h.structs;
+    elements = mapped_all (HasMadeOperands d.structs) (HasMadeOperands (map (renamed_struct to) d.structs)) (renamed_function to) (renamed_made d.structs) d.functions h.elements;
     nested = subst (All (IsNested (map (renamed_struct to) d.structs))) (sym (types_under to d)) (mapped_all (IsNested d.structs) (IsNested (map (renamed_struct to) d.structs)) (renamed to) (renamed_nested d.structs) (types_in d) h.nested);
   }
 
@@ -123,7 +137,7 @@ module _ (to : List ℕ → List ℕ) (apart : (a b : List ℕ) → to a ≡ to 
       → struct_in (map (renamed_struct to) structs) name ≡ Some s → s.body ≡ Some b → slice_get (types_list b.fields) i ≡ Some v
       → (x : Struct) × (c : StructBody) × (w : TypeTree) × (struct_in structs n ≡ Some x) × (x.body ≡ Some c) × (slice_get (types_list c.fields) i ≡ Some w) × (renamed to w ≡ v)
   field_before structs n name s b v i same is has at =
-      let x = some_from (renamed_struct to) (struct_in structs n) s (sym (renamed_struct_in structs n) ∙ ap (struct_in (map (renamed_struct to) structs)) same ∙ is) in
+      let x = some_from (renamed_struct to) (struct_in structs n) s (sym (renamed_struct_in to apart structs n) ∙ ap (struct_in (map (renamed_struct to) structs)) same ∙ is) in
       let c = some_from (renamed_body to) x.0.body b (ap (λ (s : Struct). s.body) x.2 ∙ has) in
       let w = get_from (renamed to) (types_list c.0.fields) i v (ap (λ (ts : List TypeTree). slice_get ts i) (sym (renamed_list to c.0.fields) ∙ ap (λ (b : StructBody). types_list b.fields) c.2) ∙ at) in
       (x.0, c.0, w.0, x.1, c.1, w.1, w.2)

@@ -40,6 +40,7 @@ abbrev pub refusal_head : TransferErr → List ℕ
 refusal_head (T.Import (C.UndefinedValue name v)) = codes "import UndefinedValue: "
 refusal_head (T.Import (C.IntConstTooWide width)) = codes "import IntConstTooWide: "
 refusal_head (T.Import (C.Unsupported (U.Ty of))) = other_head of
+refusal_head (T.Import (C.Unsupported U.ScalableSplat)) = codes "import ScalableSplat"
 refusal_head (T.Import (C.Struct s)) = codes "import Struct"
 refusal_head (T.Import C.NoMemory) = codes "import NoMemory"
 refusal_head (T.Export (X.UndefinedValue name)) = codes "export UndefinedValue: "

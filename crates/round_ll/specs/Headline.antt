@@ -34,7 +34,8 @@ pub record Rounds (input : List ℕ) (t : Transferred) (text : List ℕ) : Type 
   pub checked : IsChecked source
   pub numbered : IsNumbered (L.data_of source)
   pub form : IsForm (L.data_of source)
-  -- no value is of a type that the dialect lacks, nor of one that holds such a type, and no integer constant has more than 64 bits
+  -- no value is of a type that the dialect lacks, nor of one that holds such a type, and no constant is, or is made of, an integer of
+  -- more than 64 bits or a splat of a scalable vector
   pub held : AreHeld (L.data_of source)
   pub spelled : Spells input (L.data_of source)
   pub same : SameThroughout (L.data_of source) t

@@ -112,6 +112,9 @@ fn refusal_head(e: &TransferErr) -> &'static str
         TransferErr::Import(ConversionErr::UndefinedValue(..)) => "import UndefinedValue: ",
         TransferErr::Import(ConversionErr::IntConstTooWide(_)) => "import IntConstTooWide: ",
         TransferErr::Import(ConversionErr::Unsupported(Unsupported::Ty(of))) => other_head(*of),
+        TransferErr::Import(ConversionErr::Unsupported(Unsupported::ScalableSplat)) => {
+            "import ScalableSplat"
+        }
         TransferErr::Import(ConversionErr::Struct(_)) => "import Struct",
         TransferErr::Import(ConversionErr::NoMemory) => "import NoMemory",
         TransferErr::Export(ToLLVMErr::UndefinedValue(_)) => "export UndefinedValue: ",

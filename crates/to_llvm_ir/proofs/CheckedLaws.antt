@@ -1,5 +1,5 @@
 -- A module that an export made is of the form and checked, where its names differ and each block with arguments is an edge's target.
-use Rattle.std.proofs.Common.{ℕ, suc, ◌≡◌, ◌^◌, ◌<◌, ◌≤◌, List, [], ◌∷◌, ◌++◌, Some, All, length, map, slice_get, refl, sym, subst, arith}
+use Rattle.std.proofs.Common.{ℕ, suc, ◌≡◌, ◌^◌, ◌<◌, ◌≤◌, inl, inr, List, [], ◌∷◌, ◌++◌, Some, All, length, map, slice_get, refl, sym, subst, arith}
 use Rattle.std.specs.List.{flat_map}
 use Rattle.std.proofs.lemmas.List.{map-append}
 use Rattle.std.proofs.lemmas.List.Concat.{flat_map-append}
@@ -8,13 +8,15 @@ use Rattle.kinds.specs.declared.types.OtherType.{OtherType}
 use Rattle.kinds.specs.Types.{TypeTree, VoidType, RefusedType, NamedType, FunctionType, types_list, parts_of, result_of, params_of}
 use Rattle.kinds.specs.Structs.{Struct, IsFormStruct, IsNested, Holds, Itself, InPart, InField}
 use Rattle.kinds.proofs.NestLaws.{void_nested}
-use Rattle.held_types.specs.Held.{AreHeld, HasTypeWith, HasWideConst}
+use Rattle.held_types.specs.Held.{AreHeld, HasTypeWith, UsesConst, HasPart, HavePart, IsWide, IsSplat, HasWideConst}
 use Rattle.llvm_core.specs.Module.{Module}
+use Rattle.llvm_core.specs.Sound.{IsModule}
+use Rattle.llvm_core.proofs.FormElements.{all_made}
 use Rattle.support.specs.Interned.{IsDistinctList}
 use Rattle.support.proofs.ListLaws.{all_from}
 use Rattle.llvm_core.specs.Data as L
 use Rattle.llvm_core.specs.Data.{Placed, ModuleData, data_of, placed_in}
-use Rattle.llvm_core.specs.Form.{IsForm, IsFormFunction, IsFewIn, IsHeldFunction, IsShortOperand, HasDistinctNames, HasFew, constant_types, local_names, operands_of, value_types}
+use Rattle.llvm_core.specs.Form.{IsForm, IsFormFunction, IsFewIn, IsHeldFunction, IsShortConst, AreShort, IsShortOperand, HasDistinctNames, HasFew, constant_types, local_names, operands_of, value_types}
 use Rattle.dialect_types.specs.Trees.{structs_of, IsStored}
 use Rattle.dialect_types.proofs.StructLaws.{store_lacks_none, stored_structs, stored_apart}
 use Rattle.dialect_core.specs.ContextData.{ContextData}
@@ -64,6 +66,48 @@ module _ (P : TypeTree → Type 0) (void : P VoidType) where
       subst (All P) (sym (flat_map-append constant_types (placed_in f) rest))
       (All-append P (constants_in f) (flat_map constant_types rest) (All-head (HasTypes P void) f fs h).constants (constants_have fs (All-tail (HasTypes P void) f fs h)))
 
+-- ---- short constants
+
+-- equal integers have equal widths
+width_told : (w v width value : ℕ) → L.IntConst w v ≡ L.IntConst width value → w ≡ width
+width_told w v width value e = cc
+
+mutual
+  -- none of their parts is an integer of more than 64 bits
+  no_wide : (width : ℕ) (c : L.ConstTree) → IsShortConst c → HasPart (IsWide width) c → ⊥
+  no_wide width (L.IntConst w v) short wide =
+      let same : w ≡ width = width_told w v width wide.0.0 wide.0.1 in
+      let most : w ≤ 64 = short in
+      let more : 64 < width = wide.1 in
+      omega (arith, most, same, more)
+  no_wide width (L.FilledConst fill type) short wide = absurd cc
+  no_wide width (L.BytesConst bytes) short wide = absurd cc
+  no_wide width (L.ListConst type cs) short (inl wide) = absurd cc
+  no_wide width (L.ListConst type cs) short (inr wide) = none_wide_in width cs short wide
+  no_wide width (L.SplatConst type c) short wide = absurd short
+  no_wide width (L.PlaceholderConst n type) short wide = absurd cc
+
+  none_wide_in : (width : ℕ) (cs : L.ConstTrees) → AreShort cs → HavePart (IsWide width) cs → ⊥
+  none_wide_in width L.NoConsts short wide = absurd wide
+  none_wide_in width (L.ThenConst c cs) short (inl wide) = no_wide width c short.0 wide
+  none_wide_in width (L.ThenConst c cs) short (inr wide) = none_wide_in width cs short.1 wide
+
+mutual
+  -- and none is a splat of a scalable vector
+  no_splat : (c : L.ConstTree) → IsShortConst c → HasPart IsSplat c → ⊥
+  no_splat (L.IntConst w v) short splat = absurd cc
+  no_splat (L.FilledConst fill type) short splat = absurd cc
+  no_splat (L.BytesConst bytes) short splat = absurd cc
+  no_splat (L.ListConst type cs) short (inl splat) = absurd cc
+  no_splat (L.ListConst type cs) short (inr splat) = no_splats cs short splat
+  no_splat (L.SplatConst type c) short splat = absurd short
+  no_splat (L.PlaceholderConst n type) short splat = absurd cc
+
+  no_splats : (cs : L.ConstTrees) → AreShort cs → HavePart IsSplat cs → ⊥
+  no_splats L.NoConsts short splat = absurd splat
+  no_splats (L.ThenConst c cs) short (inl splat) = no_splat c short.0 splat
+  no_splats (L.ThenConst c cs) short (inr splat) = no_splats cs short.1 splat
+
 -- ---- types that the dialect has
 
 module _ (structs : List Struct) where
@@ -98,16 +142,21 @@ module _ (structs : List Struct) where
       let f = all_at (HasTypes LacksNone void_lacks) d.functions h.place h.f all h.at in
       all_at LacksNone (value_types h.f) h.index h.type (values_lack h.f f) h.here of (subst (λ (ss : List Struct). Holds ss (RefusedType of) h.type) same h.holds)
 
-  none_wide : (d : ModuleData) → All IsHeldFunction d.functions → (width : ℕ) → HasWideConst d width → ⊥
-  none_wide d all width h =
+  -- each constant that an instruction uses is short
+  used_short : (d : ModuleData) → All IsHeldFunction d.functions → (P : L.ConstTree → Type 0) → (h : UsesConst d P) → IsShortConst h.constant
+  used_short d all P h =
       let f = all_at IsHeldFunction d.functions h.place h.f all h.at in
       let uses = all_at (λ (p : Placed). All IsShortOperand (operands_of p.instruction)) (placed_in h.f) h.index h.p f.constants h.here in
-      let small : width ≤ 64 = all_at IsShortOperand (operands_of h.p.instruction) h.operand (L.Constant (L.IntConst width h.value)) uses h.used in
-      let wide = h.wide in
-      omega (arith, small, wide)
+      all_at IsShortOperand (operands_of h.p.instruction) h.operand (L.Constant h.constant) uses h.used
+
+  none_wide : (d : ModuleData) → All IsHeldFunction d.functions → (width : ℕ) → HasWideConst d width → ⊥
+  none_wide d all width h = no_wide width h.constant (used_short d all (IsWide width) h) h.part
+
+  none_splat : (d : ModuleData) → All IsHeldFunction d.functions → UsesConst d IsSplat → ⊥
+  none_splat d all h = no_splat h.constant (used_short d all IsSplat h) h.part
 
   pub held_if : (d : ModuleData) → d.structs ≡ structs → All (HasTypes LacksNone void_lacks) d.functions → All IsHeldFunction d.functions → AreHeld d
-  held_if d same all held = record { types = none_lacked d same all; constants = none_wide d held }
+  held_if d same all held = record { types = none_lacked d same all; constants = none_wide d held; splats = none_splat d held }
 
 -- ---- the module back
 
@@ -125,8 +174,8 @@ module _ (c : ContextData) (m : ℕ) (stored : IsStored c.types) (typed : D.IsTy
       held_if (structs_of c.types) (data_of back) exported.structs_are (all_types (LacksNone (structs_of c.types)) (void_lacks (structs_of c.types)) (D.data_of c m).functions (data_of back).functions made names)
       (each IsHeldFunction (λ g f h. h.held) (D.data_of c m).functions (data_of back).functions exported.functions)
 
-  pub form_exported : All HasTargets (D.data_of c m).functions → IsForm (data_of back)
-  form_exported targets =
+  pub form_exported : IsModule back → All HasTargets (D.data_of c m).functions → IsForm (data_of back)
+  form_exported sound targets =
       let fs = (data_of back).functions in
       let ss = structs_of c.types in
       let void = void_nested ss in
@@ -143,6 +192,7 @@ module _ (c : ContextData) (m : ℕ) (stored : IsStored c.types) (typed : D.IsTy
             (All-append (IsNested ss) (map (λ (s : Struct). NamedType s.name) ss) types (structs_nested c.types stored) (types_have (IsNested ss) void fs names))
             (results_have (IsNested ss) void fs names))
             (constants_have (IsNested ss) void fs names));
+        elements = all_made back sound;
       }
 
   pub distinct_exported : IsDistinctNames (map D.llvm_name_of (D.data_of c m).functions) → HasDistinctNames (data_of back)

@@ -1,31 +1,27 @@
 -- A constant operation of a function: what it holds, and the constant of LLVM that it becomes.
-use Rattle.std.proofs.Common.{◌≡◌, ◌<◌, ◌^◌, ℕ, Bool, true, false, if◌then◌else◌, List, [], ◌++◌, Option, Some, None, All, length, slice_get, refl, sym, ap, subst, ◌∙◌, arith}
+use Rattle.std.proofs.Common.{◌≡◌, ◌<◌, List, [], ◌++◌, Option, Some, None, All, length, slice_get, true, false, refl, sym, ap, subst, ◌∙◌}
+use Rattle.std.specs.Prelude.{IfSome}
 use Rattle.std.specs.List.{flat_map}
 use Rattle.std.specs.Option.{option_map}
 use Rattle.std.proofs.lemmas.List.Elements.{All-nil}
 use Rattle.std.proofs.lemmas.Option.{same_Some, none-some}
+use Rattle.support.proofs.ListLaws.{item_there}
 use Rattle.kinds.specs.declared.fill.Fill.{Fill}
-use Rattle.kinds.specs.declared.fitting.Shape.{Shape}
-use Rattle.kinds.specs.Fill.{is_own_fill}
-use Rattle.kinds.specs.Types.{shape}
-use Rattle.kinds.specs.Held.{width_in, IsHeld}
-use Rattle.kinds.proofs.HeldLaws.{int_held}
+use Rattle.kinds.specs.Held.{IsHeld}
+use Rattle.llvm_core.specs.declared.numbers.LLVMConst.{LLVMConst}
 use Rattle.llvm_core.specs.declared.numbers.LLVMType.{LLVMType}
-use Rattle.llvm_core.specs.declared.types.LLVMTypeKind.TheVariants as T
-use Rattle.llvm_core.specs.declared.consts.LLVMConstKind.{LLVMConstKind}
-use Rattle.llvm_core.specs.declared.consts.LLVMConstKind.TheVariants as C
+use Rattle.llvm_core.specs.declared.code.LLVMValue.TheVariants as V
 use Rattle.llvm_core.specs.Module.{Module}
 use Rattle.llvm_core.specs.Sound.{IsModule}
-use Rattle.llvm_core.specs.Consts.{one_form}
-use Rattle.llvm_core.specs.Parts.{IsIntAt, const_type}
-use Rattle.llvm_core.specs.Data.{ConstTree, IntConst, FilledConst, filled_const, const_tree, trees_of}
-use Rattle.llvm_core.proofs.WholeTypes.{shape_there}
+use Rattle.llvm_core.specs.Parts.{const_type}
+use Rattle.llvm_core.specs.Data as L
+use Rattle.llvm_core.specs.Data.{ModuleData, const_at, filled_const, trees_of}
+use Rattle.llvm_core.proofs.DataLemmas.{const_type_of}
 use Rattle.dialect_types.specs.declared.types.TypeHandle.{TypeHandle}
 use Rattle.const_attrs.specs.declared.const_attr.ConstAttr.{ConstAttr}
-use Rattle.const_attrs.specs.Trees.{Attr, IntegerAttr, attr_tree, attr_data, HasTypesBelow}
-use Rattle.const_attrs.proofs.KeptLaws.{integer_tree}
-use Rattle.dialect_core.proofs.RuleLemmas.{constant_integer as held_integer}
-use Rattle.dialect_types.specs.Trees.{TypeTree, type_at, type_trees}
+use Rattle.const_attrs.specs.Trees.{AttrTree, attr_tree, attr_data, type_of}
+use Rattle.const_attrs.specs.Verified.{broken}
+use Rattle.dialect_types.specs.Trees.{NamedStruct, TypeTree, structs_of, type_at, type_trees}
 use Rattle.dialect_core.specs.declared.numbers.OpRef.{OpRef}
 use Rattle.dialect_core.specs.declared.ops.Value.{Value}
 use Rattle.dialect_core.specs.declared.ops.Successor.{Successor}
@@ -33,62 +29,67 @@ use Rattle.dialect_core.specs.declared.ops.OpKind.{OpKind}
 use Rattle.dialect_core.specs.declared.ops.OpKind.TheVariants as K
 use Rattle.dialect_core.specs.declared.ops.OpData.{OpData}
 use Rattle.dialect_core.specs.ContextData.{ContextData, kind_at}
-use Rattle.dialect_core.specs.Data.{HasKindTypesBelow, IsTyped, Kind, ConstantOp, FilledOp, DialectOp, kind_of, value_type}
-use Rattle.dialect_core.specs.Rules.{IsIntegerOf}
-use Rattle.dialect_core.specs.Form.{is_constant, is_constant_kind}
+use Rattle.dialect_core.specs.Data.{Kind, ConstantOp, FilledOp, DialectOp, kind_of, value_type}
+use Rattle.dialect_core.specs.Form.{IsShortAttr, IsShortKind, IsRuledKind, is_constant, is_constant_kind}
 use Rattle.meaning.specs.Dialect.{option_type}
+use Rattle.to_llvm_ir.specs.declared.values.Values.{Values}
 use Rattle.to_llvm_ir.specs.Order.{StandsBeforeIn}
 use Rattle.to_llvm_ir.specs.Accepted.{IsAcceptedOp}
-use Rattle.to_llvm_ir.specs.Growth.{IsTypeOf}
-use Rattle.to_llvm_ir.specs.States.{Spot, IsSpot}
-use Rattle.to_llvm_ir.proofs.ConstLaws.{constant_of, constant_takes, kept_int}
-use Rattle.to_llvm_ir.proofs.GrowthLaws.{int_at}
-use Rattle.to_llvm_ir.proofs.OpLaws.{spot_kind, spot_parts, result_is, result_held}
+use Rattle.to_llvm_ir.specs.Constants.{IsSource, IsConstOf}
+use Rattle.to_llvm_ir.specs.Growth.{IsTypeOf, HasType}
+use Rattle.to_llvm_ir.specs.States.{Spot, IsSpot, IsNext}
+use Rattle.to_llvm_ir.proofs.AttrLaws.{filled_type, good_const}
+use Rattle.to_llvm_ir.proofs.ConstLaws.{constant_of, constant_takes, short_attr}
+use Rattle.to_llvm_ir.proofs.LookupLaws.{op_kept}
+use Rattle.to_llvm_ir.proofs.OpLaws.{spot_form, spot_kind, spot_parts, result_is, result_held}
 
--- ---- integers
+-- ---- attributes
 
-pub record ConstantParts (o : DialectOp) (type : TypeTree) (value : ℕ) : Type 0 where
-  pub kind : o.kind ≡ ConstantOp (IntegerAttr type value)
-  pub constant : is_constant o ≡ true
-  pub integer : IsIntegerOf type value
+-- what an operation of the form that holds an attribute says of it, where its result has that type
+pub record ConstantParts (structs : List NamedStruct) (o : DialectOp) (a : AttrTree) (type : TypeTree) : Type 0 where
+  pub kind : o.kind ≡ ConstantOp a
   pub result : o.result ≡ Some type
-  pub operands : o.operands ≡ []
-  pub successors : o.successors ≡ []
+  pub held : IsHeld type
+  pub typed : type_of a ≡ type
+  pub keeps : broken structs a ≡ None
+  pub short : IsShortAttr a
 
-pub constant_parts : (c : ContextData) (op : OpRef) (s : Spot) (value : ConstAttr) (ty : TypeHandle) (n : ℕ) → IsSpot c op s → kind_at c.ops op ≡ Some (K.Constant value) → attr_data value ≡ IntegerAttr ty n → ConstantParts s.op (type_at (type_trees c.types) ty) n
-constant_parts c op s value ty n h at value_is =
+pub constant_parts : (c : ContextData) (op : OpRef) (s : Spot) (value : ConstAttr) (r : Option TypeHandle) (t : TypeHandle) → IsSpot c op s → kind_at c.ops op ≡ Some (K.Constant value) → option_map (λ (x : OpData). x.result) (slice_get c.ops op.0) ≡ Some r → r ≡ Some t
+    → ConstantParts (structs_of c.types) s.op (attr_tree (type_trees c.types) (attr_data value)) (type_at (type_trees c.types) t)
+constant_parts c op s value r t h at own is =
     let ts = type_trees c.types in
-    let k = spot_kind c op s (K.Constant value) (ConstantOp (IntegerAttr (type_at ts ty) n)) h at (ap (λ (d : Attr TypeHandle). Some (ConstantOp (attr_tree ts d))) value_is) in
-    record { kind = k.0; constant = ap is_constant_kind k.0; integer = k.1.integer; result = k.1.result; operands = k.1.bare; successors = k.1.ends_here }
+    let g = s.task.source in
+    let a = attr_tree ts (attr_data value) in
+    let k = spot_kind c op s (K.Constant value) (ConstantOp a) h at refl in
+    let held = result_held c op s r t h own is in
+    record {
+      kind = k.0;
+      result = held.0;
+      held = held.1;
+      typed = same_Some (type_of a) (type_at ts t) (sym k.1.result ∙ held.0);
+      keeps = subst (IsRuledKind (structs_of c.types)) k.0 (op_kept (structs_of c.types) g h.task.ruled s.place s.at s.block s.op h.here h.there);
+      short = short_attr (value_type g) g s.op.operands s.op.result s.op.successors a k.1 (subst (λ (k : Kind). IfSome s.op.result (IsShortKind k)) k.0 (spot_form c op s h).short);
+    }
 
--- an operation of the form holds an integer
-pub constant_integer : (c : ContextData) (op : OpRef) (s : Spot) (value : ConstAttr) → IsSpot c op s → kind_at c.ops op ≡ Some (K.Constant value) → ((ty : TypeHandle) (n : ℕ) → ¬ (attr_data value ≡ IntegerAttr ty n)) → ⊥
-constant_integer c op s value h at none =
-    let ts = type_trees c.types in
-    let k = spot_kind c op s (K.Constant value) (ConstantOp (attr_tree ts (attr_data value))) h at refl in
-    let i = held_integer (value_type s.task.source) s.task.source s.op.operands s.op.result s.op.successors (attr_tree ts (attr_data value)) k.1 in
-    let n = integer_tree ts (attr_data value) i.0 i.1 i.2 in
-    none n.number i.1 n.is
+-- it has a result
+pub constant_some : (c : ContextData) (op : OpRef) (s : Spot) (value : ConstAttr) (r : Option TypeHandle) → IsSpot c op s → kind_at c.ops op ≡ Some (K.Constant value) → option_map (λ (x : OpData). x.result) (slice_get c.ops op.0) ≡ Some r → r ≡ None → ⊥
+constant_some c op s value r h at own none =
+    let held = (spot_kind c op s (K.Constant value) (ConstantOp (attr_tree (type_trees c.types) (attr_data value))) h at refl).1 in
+    let lacks = result_is (type_trees c.types) c.ops op s.op r (spot_parts c op s h) own ∙ ap (option_map (type_at (type_trees c.types))) none in
+    none-some _ (sym lacks ∙ held.result)
 
--- and its type is translated
-pub constant_held : (o : DialectOp) (type : TypeTree) (value : ℕ) → ConstantParts o type value → IsHeld type
-constant_held o type value parts = let h = parts.integer in subst IsHeld (sym h.1) (int_held h.0 h.2.0 (omega (arith, h.2.1)))
+-- the structs of the context are those of the module
+pub spot_structs : (c : ContextData) (op : OpRef) (s : Spot) (values : Values) (m : Module) → IsNext c op s values m → L.structs_of m ≡ structs_of c.types
+spot_structs c op s values m next = ap (λ (d : ModuleData). d.structs) next.state.is ∙ next.spot.task.structs
 
--- the number of its type is there
-pub constant_type_there : (c : ContextData) (op : OpRef) (value : ConstAttr) (ty : TypeHandle) (n : ℕ) → IsTyped c → kind_at c.ops op ≡ Some (K.Constant value) → attr_data value ≡ IntegerAttr ty n → ty.0 < length c.types
-constant_type_there c op value ty n typed at value_is = by (slice_get c.ops op.0) refl at
-  where
-    by : (x : Option OpData) → slice_get c.ops op.0 ≡ x → option_map (λ (x : OpData). x.kind) x ≡ Some (K.Constant value) → ty.0 < length c.types
-    by None e f = absurd (none-some _ f)
-    by (Some x) e f =
-        let kind : x.kind ≡ K.Constant value = same_Some x.kind (K.Constant value) f in
-        subst (HasTypesBelow (length c.types)) value_is (subst (HasKindTypesBelow (length c.types)) kind (typed.ops op.0 x e).kind)
-
--- the constant of LLVM fits its type
-pub constant_fits : (m : Module) (o : DialectOp) (type : TypeTree) (value from : ℕ) (ty : LLVMType) → IsModule m → ConstantParts o type value → IsTypeOf m ty type → from ≡ value → (w : ℕ) × (slice_get m.types ty.0 ≡ Some (T.Int w)) × IsIntAt w from
-constant_fits m o type value from ty s parts ty_is from_is =
-    let h = parts.integer in
-    (h.0, int_at m ty h.0 s (subst (IsTypeOf m ty) h.1 ty_is), subst (λ (n : ℕ). IsIntAt h.0 n) (sym from_is) (kept_int h.0 value h.2.1 h.3))
+-- so the attribute may become a constant of the type
+pub constant_source : (c : ContextData) (m : Module) (o : DialectOp) (value : ConstAttr) (type : TypeTree) (ty : LLVMType) → ConstantParts (structs_of c.types) o (attr_tree (type_trees c.types) (attr_data value)) type → L.structs_of m ≡ structs_of c.types → IsTypeOf m ty type
+    → IsSource (type_trees c.types) m (attr_data value) ty
+constant_source c m o value type ty parts structs typed = record {
+  typed = subst (IsTypeOf m ty) (sym parts.typed) typed;
+  keeps = subst (λ (ss : List NamedStruct). broken ss (attr_tree (type_trees c.types) (attr_data value)) ≡ None) (sym structs) parts.keeps;
+  short = parts.short;
+}
 
 -- ---- zero, undef and poison
 
@@ -109,46 +110,36 @@ filled_some c op s fill r h at own none =
     let lacks = result_is (type_trees c.types) c.ops op s.op r (spot_parts c op s h) own ∙ ap (option_map (type_at (type_trees c.types))) none in
     none-some filled.type (sym lacks ∙ filled.result)
 
--- the one form of such a constant has the type
-form_typed : (m : Module) (fill : Fill) (ty : LLVMType) → const_type (one_form m (C.Filled fill ty)) ≡ ty
-form_typed m fill ty = by _
-  where
-    by : (b : Bool) → const_type (if b then C.Filled fill ty else C.Int ty 0) ≡ ty
-    by true = refl
-    by false = refl
-
--- and its tree is that of one form
-form_tree : (m : Module) (cs : List ConstTree) (fill : Fill) (ty : LLVMType) (t : TypeTree) → IsModule m → IsTypeOf m ty t → const_tree (trees_of m).types cs (one_form m (C.Filled fill ty)) ≡ filled_const fill t
-form_tree m cs fill ty t sound type =
-    ap (λ (s : Shape). const_tree (trees_of m).types cs (if is_own_fill fill s then C.Filled fill ty else C.Int ty 0)) (shape_there m sound ty type.0 ∙ ap shape type.1) ∙ by (is_own_fill fill (shape t))
-  where
-    by : (b : Bool) → const_tree (trees_of m).types cs (if b then C.Filled fill ty else C.Int ty 0) ≡ (if b then FilledConst fill t else IntConst (width_in t) 0)
-    by true = ap (FilledConst fill) type.1
-    by false = ap (λ (u : TypeTree). IntConst (width_in u) 0) type.1
-
 -- ---- the constant of LLVM
 
 -- what an operation with a result of that type becomes, in a module
-pub record IsConstFor (o : DialectOp) (type : TypeTree) (m : Module) (kind : LLVMConstKind) : Type 0 where
+pub record IsConstFor (o : DialectOp) (type : TypeTree) (m : Module) (k : LLVMConst) : Type 0 where
   pub constant : is_constant o ≡ true
   pub result : o.result ≡ Some type
-  pub typed : IsTypeOf m (const_type kind) type
-  pub tree : (cs : List ConstTree) → const_tree (trees_of m).types cs kind ≡ constant_of o.result o.kind
+  pub typed : HasType m (V.Const k) type
+  pub tree : const_at (trees_of m).consts k ≡ constant_of o.result o.kind
 
-pub int_for : (m : Module) (o : DialectOp) (type : TypeTree) (value from : ℕ) (ty : LLVMType) → ConstantParts o type value → IsTypeOf m ty type → from ≡ value → IsConstFor o type m (C.Int ty from)
-int_for m o type value from ty parts ty_is from_is = record {
-  constant = parts.constant;
-  result = parts.result;
-  typed = ty_is;
-  tree = λ cs. ap (λ (u : TypeTree). IntConst (width_in u) from) ty_is.1 ∙ ap (IntConst (width_in type)) from_is ∙ sym (ap (constant_of o.result) parts.kind);
-}
+-- a constant that is there has the type that its tree says
+const_typed : (m : Module) (c : LLVMConst) (type : TypeTree) → IsModule m → c.0 < length m.consts → L.const_type (const_at (trees_of m).consts c) ≡ type → HasType m (V.Const c) type
+const_typed m c type sound there is = let k = item_there m.consts c.0 there in (const_type k.0, ap (option_map const_type) k.1, sym (const_type_of m c k.0 sound k.1) ∙ is)
 
-pub filled_for : (m : Module) (o : DialectOp) (fill : Fill) (type : TypeTree) (ty : LLVMType) → IsModule m → FilledParts o fill type → IsTypeOf m ty type → IsConstFor o type m (one_form m (C.Filled fill ty))
-filled_for m o fill type ty sound parts ty_is = record {
+pub constant_for : (c : ContextData) (m : Module) (o : DialectOp) (value : ConstAttr) (type : TypeTree) (k : LLVMConst) → IsModule m → ConstantParts (structs_of c.types) o (attr_tree (type_trees c.types) (attr_data value)) type → IsConstOf (type_trees c.types) m (attr_data value) k
+    → IsConstFor o type m k
+constant_for c m o value type k sound parts made =
+    let a = attr_tree (type_trees c.types) (attr_data value) in
+    record {
+      constant = ap is_constant_kind parts.kind;
+      result = parts.result;
+      typed = const_typed m k type sound made.0 (ap L.const_type made.1 ∙ (good_const (structs_of c.types) a parts.keeps parts.short).typed ∙ parts.typed);
+      tree = made.1 ∙ sym (ap (constant_of o.result) parts.kind);
+    }
+
+pub filled_for : (m : Module) (o : DialectOp) (fill : Fill) (type : TypeTree) (k : LLVMConst) → IsModule m → FilledParts o fill type → k.0 < length m.consts → const_at (trees_of m).consts k ≡ filled_const fill type → IsConstFor o type m k
+filled_for m o fill type k sound parts there made = record {
   constant = ap is_constant_kind parts.kind;
   result = parts.result;
-  typed = subst (λ (t : LLVMType). IsTypeOf m t type) (sym (form_typed m fill ty)) ty_is;
-  tree = λ cs. form_tree m cs fill ty type sound ty_is ∙ sym (ap (constant_of o.result) parts.kind ∙ ap (λ (r : Option TypeTree). filled_const fill (option_type r)) parts.result);
+  typed = const_typed m k type sound there (ap L.const_type made ∙ filled_type fill type);
+  tree = made ∙ sym (ap (constant_of o.result) parts.kind ∙ ap (λ (r : Option TypeTree). filled_const fill (option_type r)) parts.result);
 }
 
 -- ---- what a constant uses

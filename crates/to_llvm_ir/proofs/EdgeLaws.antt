@@ -10,7 +10,6 @@ use Rattle.std.proofs.lemmas.List.Folds.{find-append}
 use Rattle.support.proofs.ListLaws.{slice_get-kept, all_from, slice_get-behind, slice_get-behind_cases}
 use Rattle.llvm_core.specs.Data.{Operand, Placed, Block, targets}
 use Rattle.dialect_types.specs.Trees.{TypeTree}
-use Rattle.const_attrs.specs.Trees.{IntegerAttr, FilledAttr, BytesAttr, AggregateAttr, SplatAttr}
 use Rattle.dialect_core.specs.declared.numbers.BlockRef.{BlockRef}
 use Rattle.dialect_core.specs.declared.ops.Value.{Value}
 use Rattle.dialect_core.specs.declared.ops.Value.TheVariants.{Result, Argument}
@@ -67,11 +66,7 @@ module _ (g : Func) (n : Numbers) where
 
   -- an instruction leads where the operation does
   pub op_targets : (k : Kind) (vs : List Value) (own : Option TypeTree) (ss : List Successor) → IsOfKind (value_type g) g vs own ss k → targets (instruction_for g n k own vs ss) ≡ map target_for ss
-  op_targets (ConstantOp (IntegerAttr t v)) vs own ss h = sym (ap (map target_for) h.ends_here)
-  op_targets (ConstantOp (FilledAttr fill type)) vs own ss h = absurd h
-  op_targets (ConstantOp (BytesAttr bytes)) vs own ss h = absurd h
-  op_targets (ConstantOp (AggregateAttr elements type)) vs own ss h = absurd h
-  op_targets (ConstantOp (SplatAttr element type)) vs own ss h = absurd h
+  op_targets (ConstantOp constant) vs own ss h = sym (ap (map target_for) h.ends_here)
   op_targets (FilledOp fill) vs own ss h = sym (ap (map target_for) h.ends_here)
   op_targets (RowOp op) vs own ss h = refl
 
@@ -82,11 +77,7 @@ module _ (g : Func) (n : Numbers) where
   no_edges ss none = subst (All (IsEdge (value_type g) g)) (sym none) (all_from (IsEdge (value_type g) g) [] (λ i s at. absurd (none-some s at)))
 
   pub op_edges : (k : Kind) (vs : List Value) (own : Option TypeTree) (ss : List Successor) → IsOfKind (value_type g) g vs own ss k → All (IsEdge (value_type g) g) ss
-  op_edges (ConstantOp (IntegerAttr t v)) vs own ss h = no_edges ss h.ends_here
-  op_edges (ConstantOp (FilledAttr fill type)) vs own ss h = absurd h
-  op_edges (ConstantOp (BytesAttr bytes)) vs own ss h = absurd h
-  op_edges (ConstantOp (AggregateAttr elements type)) vs own ss h = absurd h
-  op_edges (ConstantOp (SplatAttr element type)) vs own ss h = absurd h
+  op_edges (ConstantOp constant) vs own ss h = no_edges ss h.ends_here
   op_edges (FilledOp fill) vs own ss h = no_edges ss h.ends_here
   op_edges (RowOp op) vs own ss h = h.leads.1
 

@@ -31,7 +31,7 @@ use Rattle.to_llvm_ir.specs.Made.{function_made, entries}
 use Rattle.to_llvm_ir.specs.Opening.{AreBlocks}
 use Rattle.to_llvm_ir.specs.States.{Task, IsTask, IsLinking}
 use Rattle.to_llvm_ir.specs.Ordering.{AreBlocksOf}
-use Rattle.to_llvm_ir.specs.Functions.{IsMadeOf, AddsFunction, AddsFunctions, functions_in}
+use Rattle.to_llvm_ir.specs.Functions.{HasRules, IsMadeOf, AddsFunction, AddsFunctions, functions_in}
 use Rattle.to_llvm_ir.specs.Structs.{AddsStructs}
 use Rattle.to_llvm_ir.proofs.ContextLaws.{known, func_parts}
 use Rattle.to_llvm_ir.proofs.ListLaws.{all_at, at_middle, filter_map_more, filter_map_at}
@@ -103,14 +103,14 @@ accepted order g few labelled bodies edges = record {
 functions_count : (m : Module) → length (L.data_of m).functions ≡ length m.functions
 functions_count m = length-map (enumerate_from 0 m.functions) (function_of (trees_of m) m.blocks m.insts) ∙ length-enumerate_from 0 m.functions
 
-pub finished : (t : Task) (form : IsFormFunc t.source) (taken : IsTaken t.source t.numbers.order) (old : Module) (known : Values) (m : Module) → t.before ≡ L.data_of old → length old.functions < 2 ^ 30 → IsAccepted t.numbers.order t.source → IsLinking t (entries t.source t.numbers) known m → AddsFunction t.source (L.data_of old) (L.data_of m)
-finished t form taken old known m before few h s =
+pub finished : (t : Task) (form : IsFormFunc t.source) (ruled : HasRules t.source) (taken : IsTaken t.source t.numbers.order) (old : Module) (known : Values) (m : Module) → t.before ≡ L.data_of old → length old.functions < 2 ^ 30 → IsAccepted t.numbers.order t.source → IsLinking t (entries t.source t.numbers) known m → AddsFunction t.source (L.data_of old) (L.data_of m)
+finished t form ruled taken old known m before few h s =
     let f : Function = function_made t.source t.numbers (entries t.source t.numbers) in
     let is : L.data_of m ≡ with_function (L.data_of old) f = s.is ∙ ap (λ (d : ModuleData). with_function d f) before in
     record {
       function = f;
       is = is;
-      made = record { numbers = t.numbers; form = form; taken = taken; accepted = h; is = refl };
+      made = record { numbers = t.numbers; form = form; ruled = ruled; taken = taken; accepted = h; is = refl };
       few = let e = ap (λ (d : ModuleData). length d.functions) is in let k = length_push (L.data_of old).functions f in let n = functions_count old in omega (arith, e, k, n, few);
     }
 

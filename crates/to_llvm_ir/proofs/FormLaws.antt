@@ -37,6 +37,7 @@ use Rattle.to_llvm_ir.specs.Exported.{blocks_by, block_name, value_name, result_
 use Rattle.to_llvm_ir.specs.Made.{Numbers, operand_for, row_for, instruction_for, inst, insts, phis, block_phis, block_made, function_made, entries, number_past, entry_args, number_after, number_behind}
 use Rattle.to_llvm_ir.specs.Accepted.{IsAccepted}
 use Rattle.to_llvm_ir.specs.Links.{HasTarget}
+use Rattle.to_llvm_ir.specs.Functions.{HasRules}
 use Rattle.to_llvm_ir.proofs.ListLaws.{AreNumbered, all_at}
 use Rattle.to_llvm_ir.proofs.NameLaws.{no_intrinsic, bare_good}
 use Rattle.to_llvm_ir.proofs.TurnLaws.{turn_at, filter_taken}
@@ -120,7 +121,7 @@ any_append {X} p (x ∷ xs) ys h k = by (p x) h (λ e. any_append p xs ys e k)
     by true e f = cc
     by false e f = f e
 
-module _ (g : Func) (form : IsFormFunc g) (n : Numbers) (order : IsOrder (length g.blocks) n.order) where
+module _ (g : Func) (form : IsFormFunc g) (ruled : HasRules g) (n : Numbers) (order : IsOrder (length g.blocks) n.order) where
   abbrev made : Function
   made = function_made g n (entries g n)
 
@@ -193,18 +194,18 @@ module _ (g : Func) (form : IsFormFunc g) (n : Numbers) (order : IsOrder (length
   operands_own [] h = All-nil (F.IsOperandOf made)
   operands_own (v ∷ vs) h =
       let one = All-head (IsHeldValue g) v vs h in
-      All-cons (F.IsOperandOf made) (operand_for g n v) (map (operand_for g n) vs) (operand_form g form n order (entries g n) v one.0 one.1).stands (operands_own vs (All-tail (IsHeldValue g) v vs h))
+      All-cons (F.IsOperandOf made) (operand_for g n v) (map (operand_for g n) vs) (operand_form g form n order (entries g n) ruled v one.0 one.1).stands (operands_own vs (All-tail (IsHeldValue g) v vs h))
 
   operands_first_class : (vs : List Value) → All (IsHeldValue g) vs → All IsFirstClass (F.types_of made (map (operand_for g n) vs))
   operands_first_class [] h = All-nil IsFirstClass
   operands_first_class (v ∷ vs) h =
       let one = All-head (IsHeldValue g) v vs h in
-      let is = operand_form g form n order (entries g n) v one.0 one.1 in
+      let is = operand_form g form n order (entries g n) ruled v one.0 one.1 in
       All-cons IsFirstClass (operand_type made (operand_for g n v)) (F.types_of made (map (operand_for g n) vs)) (subst IsFirstClass (sym is.typed) is.first_class) (operands_first_class vs (All-tail (IsHeldValue g) v vs h))
 
   operands_typed : (vs : List Value) → All (IsHeldValue g) vs → (i : ℕ) → slice_get (F.types_of made (map (operand_for g n) vs)) i ≡ type_nth (value_type g) vs i
   operands_typed [] h i = refl
-  operands_typed (v ∷ vs) h zero = let one = All-head (IsHeldValue g) v vs h in ap Some (operand_typed g form n order (entries g n) v one.0 one.1.typed) ∙ sym one.1.typed
+  operands_typed (v ∷ vs) h zero = let one = All-head (IsHeldValue g) v vs h in ap Some (operand_typed g form n order (entries g n) ruled v one.0 one.1.typed) ∙ sym one.1.typed
   operands_typed (v ∷ vs) h (suc i) = operands_typed vs (All-tail (IsHeldValue g) v vs h) i
 
   operands_counted : (vs : List Value) → length (F.types_of made (map (operand_for g n) vs)) ≡ length vs
@@ -226,7 +227,7 @@ module _ (g : Func) (form : IsFormFunc g) (n : Numbers) (order : IsOrder (length
       all [] k = All-nil (λ (o : Operand). operand_type made o ≡ result_of g.type)
       all (v ∷ us) k =
           All-cons (λ (o : Operand). operand_type made o ≡ result_of g.type) (operand_for g n v) (map (operand_for g n) us)
-          (operand_typed g form n order (entries g n) v (result_of g.type) (All-head (λ (v : Value). value_type g v ≡ Some (result_of g.type)) v us k))
+          (operand_typed g form n order (entries g n) ruled v (result_of g.type) (All-head (λ (v : Value). value_type g v ≡ Some (result_of g.type)) v us k))
           (all us (All-tail (λ (v : Value). value_type g v ≡ Some (result_of g.type)) v us k))
 
   row_form : (op : Op) (vs : List Value) (own : Option TypeTree) (ss : List Successor) → IsRow (value_type g) g op vs own ss → All (IsHeldValue g) vs → All (λ (s : Successor). IsTarget made (target_for g n s)) ss
@@ -288,7 +289,7 @@ module _ (g : Func) (form : IsFormFunc g) (n : Numbers) (order : IsOrder (length
         let good = edge_form g form n p.at p.edge_at p.block p.edge p.here p.there in
         let typed : value_type g p.value ≡ Some ty = good.typed i p.value ty p.passes (argument_type g form (suc t) i p.edge.block c at (sym p.to) ∙ type) in
         let held = all_at IsHeld c.args i ty (block_form g form (suc t) c at).args type in
-        subst (F.IsOperand made ty) (sym p.is) (operand_form g form n order (entries g n) p.value ty (record { typed = typed; held = held }))
+        subst (F.IsOperand made ty) (sym p.is) (operand_form g form n order (entries g n) ruled p.value ty (record { typed = typed; held = held }))
 
     phi_some : (t : ℕ) (c : DialectBlock) (i : ℕ) (ty : TypeTree) → slice_get g.blocks (suc t) ≡ Some c → slice_get c.args i ≡ Some ty → entries g n (Argument (record { 0 = c.number }) i) ≡ [] → ⊥
     phi_some t c i ty at type none =

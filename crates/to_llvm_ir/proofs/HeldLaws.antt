@@ -20,12 +20,12 @@ use Rattle.dialect_core.specs.Nested.{BlockNames, FuncNames}
 use Rattle.dialect_core.proofs.FuncLemmas.{find_there}
 use Rattle.meaning.specs.Dialect.{option_type}
 use Rattle.meaning.specs.Pairs.{Matched}
-use Rattle.to_llvm_ir.specs.Functions.{IsMadeOf}
+use Rattle.to_llvm_ir.specs.Functions.{HasRules, IsMadeOf}
 use Rattle.to_llvm_ir.specs.Made.{Numbers, constant_or, is_entry, number_of, operand_for, instruction_for, number_after, number_behind, inst, insts, phis, block_phis, blocks_made, entries, function_made}
-use Rattle.to_llvm_ir.proofs.ConstLaws.{constant_of, constant_is, other_is, constant_result, constant_short, constant_typed}
+use Rattle.to_llvm_ir.proofs.ConstLaws.{HasRuledKind, constant_of, constant_is, other_is, constant_result, constant_short, constant_good}
 use Rattle.to_llvm_ir.proofs.CountLaws.{comes_by}
 use Rattle.to_llvm_ir.proofs.ListLaws.{all_at}
-use Rattle.to_llvm_ir.proofs.LookupLaws.{block_form, op_form, op_of_block}
+use Rattle.to_llvm_ir.proofs.LookupLaws.{block_form, op_form, op_ruled, op_of_block}
 
 -- the types of the results of a function's instructions
 abbrev pub results_of : L.Function → List TypeTree
@@ -39,7 +39,7 @@ constants_in f = flat_map constant_types (placed_in f)
 
 -- of types P holds; of operands Q does, which holds of parameters and results, and of the constants that operations become
 module _ (P : TypeTree → Type 0) (void : P VoidType) (Q : Operand → Type 0) (of_param : (f i : ℕ) → Q (L.Parameter f i)) (of_result : (m : ℕ) → Q (L.Result m))
-    (of_constant : (g : Func) (o : DialectOp) → IsFormOp g o → IfSome o.result P → is_constant o ≡ true → Q (L.Constant (constant_of o.result o.kind))) where
+    (of_constant : (g : Func) (o : DialectOp) → IsFormOp g o → HasRuledKind o.kind → IfSome o.result P → is_constant o ≡ true → Q (L.Constant (constant_of o.result o.kind))) where
   -- of the type of an instruction's result, and of its operands
   abbrev HasPlaced : Placed → Type 0
   HasPlaced p = P p.type × All Q (operands_of p.instruction)
@@ -51,15 +51,15 @@ module _ (P : TypeTree → Type 0) (void : P VoidType) (Q : Operand → Type 0) 
   own_has None h = void
   own_has (Some t) h = h
 
-  module _ (g : Func) (form : IsFormFunc g) (n : Numbers) (names : (j : ℕ) (c : DialectBlock) → slice_get g.blocks j ≡ Some c → BlockNames P c) where
+  module _ (g : Func) (form : IsFormFunc g) (ruled : HasRules g) (n : Numbers) (names : (j : ℕ) (c : DialectBlock) → slice_get g.blocks j ≡ Some c → BlockNames P c) where
     -- ---- operands
 
     -- what a constant operation becomes, or a result
-    constant_has : (m : ℕ) (o : DialectOp) → IsFormOp g o → HasResult o → Q (constant_or (L.Result m) o.result o.kind)
-    constant_has m o h own = by (is_constant o) refl
+    constant_has : (m : ℕ) (o : DialectOp) → IsFormOp g o → HasRuledKind o.kind → HasResult o → Q (constant_or (L.Result m) o.result o.kind)
+    constant_has m o h keeps own = by (is_constant o) refl
       where
         by : (b : Bool) → is_constant o ≡ b → Q (constant_or (L.Result m) o.result o.kind)
-        by true e = subst Q (sym (constant_is (L.Result m) o.result o.kind e)) (of_constant g o h own e)
+        by true e = subst Q (sym (constant_is (L.Result m) o.result o.kind e)) (of_constant g o h keeps own e)
         by false e = subst Q (sym (other_is (L.Result m) o.result o.kind e)) (of_result m)
 
     operand_has : (v : Value) → Q (operand_for g n v)
@@ -75,7 +75,7 @@ module _ (P : TypeTree → Type 0) (void : P VoidType) (Q : Operand → Type 0) 
         by (Some o) e =
             let f = find_there (λ (o : DialectOp). nat_eq o.number r.0) (ops_in g) o e in
             let b = op_of_block g.blocks f.0 o f.1 in
-            constant_has (number_of g n (Result r)) o (op_form g form b.0 b.1 b.2 o b.3 b.4) (all_at HasResult b.2.ops b.1 o (names b.0 b.2 b.3).results b.4)
+            constant_has (number_of g n (Result r)) o (op_form g form b.0 b.1 b.2 o b.3 b.4) (op_ruled g ruled b.0 b.1 b.2 o b.3 b.4) (all_at HasResult b.2.ops b.1 o (names b.0 b.2 b.3).results b.4)
 
     operands_have : (vs : List Value) → All Q (map (operand_for g n) vs)
     operands_have [] = All-nil Q
@@ -131,10 +131,10 @@ module _ (P : TypeTree → Type 0) (void : P VoidType) (Q : Operand → Type 0) 
 
 module _ (P : TypeTree → Type 0) (void : P VoidType) where
   -- a constant is of the type of a result
-  constant_types_have : (g : Func) (o : DialectOp) → IsFormOp g o → IfSome o.result P → is_constant o ≡ true → All P (constant_type (L.Constant (constant_of o.result o.kind)))
-  constant_types_have g o h own e =
+  constant_types_have : (g : Func) (o : DialectOp) → IsFormOp g o → HasRuledKind o.kind → IfSome o.result P → is_constant o ≡ true → All P (constant_type (L.Constant (constant_of o.result o.kind)))
+  constant_types_have g o h keeps own e =
       let t = constant_result (value_type g) g o.operands o.result o.successors o.kind e h.kind in
-      let typed = constant_typed (value_type g) g o.operands o.result o.successors t.0 o.kind e t.1 h.kind in
+      let typed = (constant_good (value_type g) g o.operands o.result o.successors t.0 o.kind e t.1 h.kind h.short keeps).typed in
       let one : P (const_type (constant_of o.result o.kind)) = subst P (sym typed) (subst (λ (r : Option TypeTree). IfSome r P) t.1 own) in
       All-cons P (const_type (constant_of o.result o.kind)) [] one (All-nil P)
 
@@ -144,9 +144,9 @@ module _ (P : TypeTree → Type 0) (void : P VoidType) where
   abbrev HasPlacedTypes : Placed → Type 0
   HasPlacedTypes p = P p.type × All HasTypesOf (operands_of p.instruction)
 
-  module _ (g : Func) (form : IsFormFunc g) (n : Numbers) (names : (j : ℕ) (c : DialectBlock) → slice_get g.blocks j ≡ Some c → BlockNames P c) where
+  module _ (g : Func) (form : IsFormFunc g) (ruled : HasRules g) (n : Numbers) (names : (j : ℕ) (c : DialectBlock) → slice_get g.blocks j ≡ Some c → BlockNames P c) where
     placed_types : All HasPlacedTypes (placed_in (function_made g n (entries g n)))
-    placed_types = placed_have P void HasTypesOf (λ f i. All-nil P) (λ m. All-nil P) constant_types_have g form n names
+    placed_types = placed_have P void HasTypesOf (λ f i. All-nil P) (λ m. All-nil P) constant_types_have g form ruled n names
 
     -- holds of each result of the function that is made of it
     pub made_results : All P (results_of (function_made g n (entries g n)))
@@ -176,7 +176,7 @@ module _ (P : TypeTree → Type 0) (void : P VoidType) where
   made_types : (g : Func) (f : L.Function) → IsMadeOf g f → FuncNames P g → HasTypes f
   made_types g f h names =
       let blocks : (j : ℕ) (c : DialectBlock) → slice_get g.blocks j ≡ Some c → BlockNames P c = λ j c at. all_at (BlockNames P) g.blocks j c names.blocks at in
-      subst HasTypes (sym h.is) (record { type = names.type; results = made_results g h.form h.numbers blocks; constants = made_constants g h.form h.numbers blocks })
+      subst HasTypes (sym h.is) (record { type = names.type; results = made_results g h.form h.ruled h.numbers blocks; constants = made_constants g h.form h.ruled h.numbers blocks })
 
   -- of functions, one by one
   pub all_types : (gs : List Func) (fs : List L.Function) → Matched IsMadeOf gs fs → All (FuncNames P) gs → All HasTypes fs
@@ -198,22 +198,22 @@ block_held g c form = record {
 }
 
 -- a constant of the form is short
-short_constant : (g : Func) (o : DialectOp) → IsFormOp g o → IfSome o.result IsHeldResult → is_constant o ≡ true → IsShortConst (constant_of o.result o.kind)
-short_constant g o h own e = constant_short (value_type g) g o.operands o.result o.successors o.kind e h.kind h.short
+short_constant : (g : Func) (o : DialectOp) → IsFormOp g o → HasRuledKind o.kind → IfSome o.result IsHeldResult → is_constant o ≡ true → IsShortConst (constant_of o.result o.kind)
+short_constant g o h keeps own e = constant_short (value_type g) g o.operands o.result o.successors o.kind e h.kind h.short keeps
 
-pub made_held : (g : Func) (n : Numbers) → IsFormFunc g → IsHeldFunction (function_made g n (entries g n))
-made_held g n form =
+pub made_held : (g : Func) (n : Numbers) → IsFormFunc g → HasRules g → IsHeldFunction (function_made g n (entries g n))
+made_held g n form ruled =
     let results = results_of (function_made g n (entries g n)) in
     let constants = constants_in (function_made g n (entries g n)) in
     let void = held_result_void VoidType refl in
     let names : (j : ℕ) (c : DialectBlock) → slice_get g.blocks j ≡ Some c → BlockNames IsHeldResult c = λ j c at. block_held g c (block_form g form j c at) in
     let takes : All IsHeldResult (types_list form.types) = All-weaker IsHeld IsHeldResult held_result_if (types_list form.types) form.takes in
     let ps = placed_in (function_made g n (entries g n)) in
-    let used = placed_have IsHeldResult void IsShortOperand (λ f i. tt) (λ m. tt) short_constant g form n names in
+    let used = placed_have IsHeldResult void IsShortOperand (λ f i. tt) (λ m. tt) short_constant g form ruled n names in
     record {
       types = All-cons IsHeldResult (result_of g.type) (params_of g.type ++ results ++ constants) (subst (λ (t : TypeTree). IsHeldResult (result_of t)) (sym form.type) form.returns)
           (All-append IsHeldResult (params_of g.type ++ results) constants
-          (All-append IsHeldResult (params_of g.type) results (subst (λ (t : TypeTree). All IsHeldResult (params_of t)) (sym form.type) takes) (made_results IsHeldResult void g form n names))
-          (made_constants IsHeldResult void g form n names));
+          (All-append IsHeldResult (params_of g.type) results (subst (λ (t : TypeTree). All IsHeldResult (params_of t)) (sym form.type) takes) (made_results IsHeldResult void g form ruled n names))
+          (made_constants IsHeldResult void g form ruled n names));
       constants = All-weaker (λ (p : Placed). IsHeldResult p.type × All IsShortOperand (operands_of p.instruction)) (λ (p : Placed). All IsShortOperand (operands_of p.instruction)) (λ p h. h.1) ps used;
     }

@@ -51,8 +51,11 @@ pub mod ValueLaws
 pub mod FinishLaws
 pub mod StartedLaws
 pub mod CodeLaws
+pub mod ElementLaws
+pub mod AttrLaws
 pub mod ConstLaws
 pub mod ConstOpLaws
+pub mod ConstantLaws
 pub mod NarrowLaws
 pub mod OpDataLaws
 pub mod FuncDataLaws

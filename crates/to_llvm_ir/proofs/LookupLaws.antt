@@ -4,13 +4,15 @@ use Rattle.std.specs.List.{flat_map, find}
 use Rattle.std.specs.Option.{option_map_or, option_and_then}
 use Rattle.std.proofs.lemmas.Option.{same_Some, none-some, option_and_then_some}
 use Rattle.support.proofs.ListLaws.{slice_get-kept, slice_get-behind, slice_get-behind_cases, filter_at}
-use Rattle.dialect_types.specs.Trees.{TypeTree}
+use Rattle.dialect_types.specs.Trees.{NamedStruct, TypeTree}
 use Rattle.dialect_core.specs.declared.numbers.BlockRef.{BlockRef}
 use Rattle.dialect_core.specs.declared.numbers.OpRef.{OpRef}
 use Rattle.dialect_core.specs.declared.ops.Value.TheVariants.{Result, Argument}
 use Rattle.dialect_core.specs.Data.{DialectOp, DialectBlock, Func, ops_in, value_type}
-use Rattle.dialect_core.specs.Form.{IsFormFunc, IsFormBlock, IsFormOp, is_constant, others_of}
+use Rattle.dialect_core.specs.Form.{IsFormFunc, IsFormBlock, IsFormOp, is_constant, others_of, IsRuled, IsRuledKind}
 use Rattle.meaning.specs.Dialect.{place_of}
+use Rattle.to_llvm_ir.specs.Functions.{HasRules}
+use Rattle.to_llvm_ir.proofs.ConstLaws.{HasRuledKind}
 use Rattle.to_llvm_ir.specs.Made.{is_entry}
 use Rattle.to_llvm_ir.proofs.ListLaws.{all_at, find_numbered, found_numbered, position_numbered}
 
@@ -34,6 +36,13 @@ op_of_block (d ∷ cs) i o at = ⊎_elim
 
 pub other_at : (os : List DialectOp) (k : ℕ) (o : DialectOp) → slice_get os k ≡ Some o → is_constant o ≡ false → (i : ℕ) × (slice_get (others_of os) i ≡ Some o)
 other_at os k o at other = filter_at (λ (o : DialectOp). not (is_constant o)) os k o at (ap not other)
+
+-- the constant of an operation keeps the rules where those of its function do
+pub op_kept : (structs : List NamedStruct) (g : Func) → IsRuled structs g → (j k : ℕ) (c : DialectBlock) (o : DialectOp) → slice_get g.blocks j ≡ Some c → slice_get c.ops k ≡ Some o → IsRuledKind structs o.kind
+op_kept structs g ruled j k c o at at' = let i = op_among g.blocks j k c o at at' in all_at (λ (o : DialectOp). IsRuledKind structs o.kind) (ops_in g) i.0 o ruled i.1
+
+pub op_ruled : (g : Func) → HasRules g → (j k : ℕ) (c : DialectBlock) (o : DialectOp) → slice_get g.blocks j ≡ Some c → slice_get c.ops k ≡ Some o → HasRuledKind o.kind
+op_ruled g ruled j k c o at at' = (ruled.0, op_kept ruled.0 g ruled.1 j k c o at at')
 
 -- ---- what the form says
 

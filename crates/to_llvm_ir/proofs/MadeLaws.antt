@@ -10,7 +10,7 @@ use Rattle.to_llvm_ir.specs.Order.{IsTaken}
 use Rattle.to_llvm_ir.specs.Exported.{ExportedFunction}
 use Rattle.to_llvm_ir.specs.Made.{Numbers, function_made, entries, number_past, number_after, number_behind}
 use Rattle.to_llvm_ir.specs.Accepted.{IsAccepted}
-use Rattle.to_llvm_ir.specs.Functions.{IsMadeOf}
+use Rattle.to_llvm_ir.specs.Functions.{HasRules, IsMadeOf}
 use Rattle.to_llvm_ir.proofs.ShapeLaws.{shape}
 use Rattle.to_llvm_ir.proofs.SetLaws.{sets_first}
 use Rattle.to_llvm_ir.proofs.PhiLaws.{made_phis}
@@ -57,12 +57,12 @@ unnamed : (ts : List TypeTree) → All (λ (n : List ℕ). n ≡ []) (map (λ (t
 unnamed [] = All-nil (λ (n : List ℕ). n ≡ [])
 unnamed (t ∷ ts) = All-cons (λ (n : List ℕ). n ≡ []) [] (map (λ (t : TypeTree). let none : List ℕ = [] in none) ts) refl (unnamed ts)
 
-exported : (g : Func) (form : IsFormFunc g) (n : Numbers) → IsTaken g n.order → IsAccepted n.order g → number_past 0 g.blocks < 2 ^ 64 → ExportedFunction g (function_made g n (entries g n))
-exported g form n taken h small = record {
+exported : (g : Func) (form : IsFormFunc g) (ruled : HasRules g) (n : Numbers) → IsTaken g n.order → IsAccepted n.order g → number_past 0 g.blocks < 2 ^ 64 → ExportedFunction g (function_made g n (entries g n))
+exported g form ruled n taken h small = record {
   name = refl;
   type = refl;
   space = refl;
-  shape = λ a b. shape a b g form n taken.once h;
+  shape = λ a b. shape a b g form ruled n taken.once h;
   sets = λ only a b. sets_first b g form n taken h only;
   params = unnamed _;
   names = made_named g form n (entries g n);
@@ -73,14 +73,14 @@ exported g form n taken h small = record {
   arguments = λ a b. made_arguments b g form n taken.once;
   locals = distinct_locals g n (entries g n) (let few = h.few in omega (arith, few)) (omega (arith, small));
   few = made_few g n form taken.once h;
-  form = λ targets. made_form g form n taken.once h targets small;
-  held = made_held g n form;
+  form = λ targets. made_form g form ruled n taken.once h targets small;
+  held = made_held g n form ruled;
 }
 
 -- ---- all functions, when their module stands
 
 stands : (g : Func) (f : Function) → IsMadeOf g f → ExportedFunction g f
-stands g f h = subst (ExportedFunction g) (sym h.is) (exported g h.form h.numbers h.taken h.accepted (few_values h.numbers.order g h.accepted))
+stands g f h = subst (ExportedFunction g) (sym h.is) (exported g h.form h.ruled h.numbers h.taken h.accepted (few_values h.numbers.order g h.accepted))
 
 pub all_stand : (gs : List Func) (fs : List Function) → Matched IsMadeOf gs fs → Matched ExportedFunction gs fs
 all_stand [] [] h = tt

@@ -7,7 +7,6 @@ use Rattle.std.proofs.lemmas.List.{take_all}
 use Rattle.std.proofs.lemmas.Option.{same_Some, none-some, slice_get-get_or}
 use Rattle.support.proofs.ListLaws.{all_from, contains_at}
 use Rattle.dialect_types.specs.Trees.{TypeTree, type_trees}
-use Rattle.const_attrs.specs.Trees.{IntegerAttr, FilledAttr, BytesAttr, AggregateAttr, SplatAttr}
 use Rattle.dialect_core.specs.declared.numbers.OpRef.{OpRef}
 use Rattle.dialect_core.specs.declared.numbers.BlockRef.{BlockRef}
 use Rattle.dialect_core.specs.declared.ops.Value.{Value}
@@ -110,11 +109,7 @@ module _ (types : Typing) where
         all_at P w.0.args w.2.0 v (all_at (IsEdge types g) ss w.1.0 w.0 h w.1.1).args w.2.1)
 
     kind_typed : (vs : List Value) (own : Option TypeTree) (ss : List Successor) (k : Kind) → IsOfKind types g vs own ss k → All P vs × All P (args ss)
-    kind_typed vs own ss (ConstantOp (IntegerAttr t v)) h = (none vs h.bare, no_edges ss h.ends_here)
-    kind_typed vs own ss (ConstantOp (FilledAttr fill type)) h = absurd h
-    kind_typed vs own ss (ConstantOp (BytesAttr bytes)) h = absurd h
-    kind_typed vs own ss (ConstantOp (AggregateAttr elements type)) h = absurd h
-    kind_typed vs own ss (ConstantOp (SplatAttr element type)) h = absurd h
+    kind_typed vs own ss (ConstantOp constant) h = (none vs h.bare, no_edges ss h.ends_here)
     kind_typed vs own ss (FilledOp fill) h = (none vs h.bare, no_edges ss h.ends_here)
     kind_typed vs own ss (RowOp op) h = (All-weaker (IsFirstClassBy types) P (λ v t. (t.0, t.1)) vs h.values, edges ss h.leads.1)
 

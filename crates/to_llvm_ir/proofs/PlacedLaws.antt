@@ -23,11 +23,12 @@ use Rattle.meaning.specs.Pairs.{Matched}
 use Rattle.meaning.specs.Dialect.{option_type}
 use Rattle.to_llvm_ir.specs.Exported.{result, arguments_from, phi_values}
 use Rattle.to_llvm_ir.specs.Made.{Numbers, result_values, values_from, values, values_by, constant_or, is_entry, number_of, operand_for, inst, insts, phis, block_phis, block_made, blocks_made, function_made, entry_args, number_after, number_behind}
-use Rattle.to_llvm_ir.proofs.ConstLaws.{constant_of, constant_is, other_is, constant_form, constant_typed}
+use Rattle.to_llvm_ir.specs.Functions.{HasRules}
+use Rattle.to_llvm_ir.proofs.ConstLaws.{constant_of, constant_is, other_is, constant_good}
 use Rattle.to_llvm_ir.proofs.ListLaws.{AreNumbered, find_numbered}
 use Rattle.to_llvm_ir.proofs.PlaceLaws.{place_at}
 use Rattle.to_llvm_ir.proofs.TurnLaws.{values_distinct, values_by_distinct, values_by_at, values_by_from, argument_among, result_among}
-use Rattle.to_llvm_ir.proofs.LookupLaws.{argument_type, result_type, argument_of, result_of, op_found, op_form, entry_at, entry_is, entry_is_not, first_is_entry, IsResultOf}
+use Rattle.to_llvm_ir.proofs.LookupLaws.{argument_type, result_type, argument_of, result_of, op_found, op_form, op_ruled, entry_at, entry_is, entry_is_not, first_is_entry, IsResultOf}
 
 -- ---- matched lists
 
@@ -188,22 +189,23 @@ module _ (g : Func) (form : IsFormFunc g) (n : Numbers) (order : IsOrder (length
 
   -- ---- operands of the form
 
-  const_form : (o : DialectOp) (t : TypeTree) → IsFormOp g o → is_constant o ≡ true → o.result ≡ Some t → F.IsFormConst (constant_of o.result o.kind) × (L.const_type (constant_of o.result o.kind) ≡ t)
-  const_form o t h constant type = (
-    constant_form (value_type g) g o.operands o.result o.successors o.kind constant h.kind h.result,
-    constant_typed (value_type g) g o.operands o.result o.successors t o.kind constant type h.kind,
-  )
+  module _ (ruled : HasRules g) where
+    const_form : (j k : ℕ) (c : DialectBlock) (o : DialectOp) (t : TypeTree) → slice_get g.blocks j ≡ Some c → slice_get c.ops k ≡ Some o → is_constant o ≡ true → o.result ≡ Some t → F.IsFormConst (constant_of o.result o.kind) × (L.const_type (constant_of o.result o.kind) ≡ t)
+    const_form j k c o t here at constant type =
+        let h = op_form g form j k c o here at in
+        let good = constant_good (value_type g) g o.operands o.result o.successors t o.kind constant type h.kind h.short (op_ruled g ruled j k c o here at) in
+        (good.form, good.typed)
 
-  operand_typed_as : (v : Value) (t : TypeTree) → value_type g v ≡ Some t → OperandIs v t → F.IsOperandOf made (operand_for g n v) × (operand_type made (operand_for g n v) ≡ t)
-  operand_typed_as v t e (IsParam i b is entry type operand) = (
-    subst (F.IsOperandOf made) (sym operand) (refl, (let c = params_count in let lt = slice_get_within form.entry.args i t type in omega (arith, c, lt))),
-    ap (operand_type made) operand ∙ param_typed i t type,
-  )
-  operand_typed_as v t e (IsConst j k c o here at is constant type operand) = let const = const_form o t (op_form g form j k c o here at) constant type in (subst (F.IsOperandOf made) (sym operand) const.0, ap (operand_type made) operand ∙ const.1)
-  operand_typed_as v t e (IsInst i at operand) = (subst (F.IsOperandOf made) (sym operand) (result_there i v at), ap (operand_type made) operand ∙ result_typed i v at ∙ ap option_type e)
+    operand_typed_as : (v : Value) (t : TypeTree) → value_type g v ≡ Some t → OperandIs v t → F.IsOperandOf made (operand_for g n v) × (operand_type made (operand_for g n v) ≡ t)
+    operand_typed_as v t e (IsParam i b is entry type operand) = (
+      subst (F.IsOperandOf made) (sym operand) (refl, (let c = params_count in let lt = slice_get_within form.entry.args i t type in omega (arith, c, lt))),
+      ap (operand_type made) operand ∙ param_typed i t type,
+    )
+    operand_typed_as v t e (IsConst j k c o here at is constant type operand) = let const = const_form j k c o t here at constant type in (subst (F.IsOperandOf made) (sym operand) const.0, ap (operand_type made) operand ∙ const.1)
+    operand_typed_as v t e (IsInst i at operand) = (subst (F.IsOperandOf made) (sym operand) (result_there i v at), ap (operand_type made) operand ∙ result_typed i v at ∙ ap option_type e)
 
-  pub operand_typed : (v : Value) (t : TypeTree) → value_type g v ≡ Some t → operand_type made (operand_for g n v) ≡ t
-  operand_typed v t e = (operand_typed_as v t e (operand_is v t e)).1
+    pub operand_typed : (v : Value) (t : TypeTree) → value_type g v ≡ Some t → operand_type made (operand_for g n v) ≡ t
+    operand_typed v t e = (operand_typed_as v t e (operand_is v t e)).1
 
-  pub operand_form : (v : Value) (t : TypeTree) → IsOperand g t v → F.IsOperand made t (operand_for g n v)
-  operand_form v t h = let p = operand_typed_as v t h.typed (operand_is v t h.typed) in record { stands = p.0; typed = p.1; first_class = held_first_class t h.held }
+    pub operand_form : (v : Value) (t : TypeTree) → IsOperand g t v → F.IsOperand made t (operand_for g n v)
+    operand_form v t h = let p = operand_typed_as v t h.typed (operand_is v t h.typed) in record { stands = p.0; typed = p.1; first_class = held_first_class t h.held }

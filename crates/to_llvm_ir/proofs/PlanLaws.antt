@@ -9,11 +9,12 @@ use Rattle.llvm_core.specs.Data as L
 use Rattle.llvm_core.specs.Data.{Operand}
 use Rattle.dialect_types.specs.Trees.{TypeTree}
 use Rattle.block_order.specs.Order.{IsOrder}
+use Rattle.llvm_core.proofs.DataLemmas.{within_at}
 use Rattle.dialect_core.specs.declared.numbers.BlockRef.{BlockRef}
 use Rattle.dialect_core.specs.declared.ops.Value.{Value}
 use Rattle.dialect_core.specs.declared.ops.Value.TheVariants.{Result, Argument}
 use Rattle.dialect_core.specs.Data.{DialectOp, DialectBlock, Func, Kind, ConstantOp, FilledOp, RowOp, ops_in, value_type}
-use Rattle.dialect_core.specs.Form.{IsFormFunc, is_constant, is_constant_kind}
+use Rattle.dialect_core.specs.Form.{IsFormOp, IsFormBlock, IsFormFunc, is_constant, is_constant_kind}
 use Rattle.meaning.specs.Terms.{Term, Param, Unset, rename}
 use Rattle.meaning.specs.Machine.{Row, At, Action, Holds, begin}
 use Rattle.meaning.specs.Setting.{Setting}
@@ -29,11 +30,12 @@ use Rattle.meaning.proofs.Fronts.{made, after_one, after, ran, others}
 use Rattle.meaning.proofs.ConstantRows.{rows, HasConstant}
 use Rattle.to_llvm_ir.specs.Exported.{result}
 use Rattle.to_llvm_ir.specs.Made.{Numbers, values_by, number_of, operand_for, function_made}
+use Rattle.to_llvm_ir.specs.Functions.{HasRules}
 use Rattle.to_llvm_ir.proofs.ConstLaws.{constant_of, constant_holds, holds_constant}
 use Rattle.to_llvm_ir.proofs.ListLaws.{AreNumbered, numbered_rest, filter_numbered}
 use Rattle.to_llvm_ir.proofs.PlaceLaws.{comes_from}
 use Rattle.to_llvm_ir.proofs.TurnLaws.{values_by_distinct, values_by_from}
-use Rattle.to_llvm_ir.proofs.LookupLaws.{op_among, entry_at}
+use Rattle.to_llvm_ir.proofs.LookupLaws.{op_among, op_ruled, entry_at}
 use Rattle.to_llvm_ir.proofs.PlacedLaws.{number_at, types_count, OperandIs, IsParam, IsConst, IsInst, operand_is}
 
 abbrev pub of_number : ℕ → Value
@@ -220,18 +222,20 @@ module _ (setting : Setting) (g : Func) (form : IsFormFunc g) (n : Numbers) (ord
 
   -- ---- operands
 
-  stands_as : (back : Setting) (given : Value → List (Operand × ℕ)) (v : Value) (t : TypeTree) → OperandIs g form n order given v t → S.StandsFor same_places plan (llvm.operand back (operand_for g n v)) (At v)
-  stands_as back given v t (IsParam i b is entry type operand) =
-      let lt = slice_get_within form.entry.args i t type in
-      subst (λ (o : Operand). S.StandsFor same_places plan (llvm.operand back o) (At v)) (sym operand)
-      (cond-true (nat_eq n.function n.function && nat_lt i (length form.entry.args)) (Some (Argument (record { 0 = form.entry.number }) i)) None
-      (and_from (nat_eq n.function n.function) (nat_lt i (length form.entry.args)) (eq-eqb n.function n.function refl) (lt-ltb i (length form.entry.args) lt))
-      ∙ ap (λ (m : ℕ). Some (Argument (record { 0 = m }) i)) (sym entry) ∙ ap Some (sym is))
-  stands_as back given v t (IsConst j k c o here at is constant type operand) =
-      let held = has_constant j k c o here at (rename same_places (llvm.const_term back (constant_of o.result o.kind))) (constant_holds setting back g o o.kind constant) in
-      subst (λ (o : Operand). S.StandsFor same_places plan (llvm.operand back o) (At v)) (sym operand)
-      (subst (λ (w : Value). S.StandsFor same_places plan (llvm.operand back (L.Constant (constant_of o.result o.kind))) (At w)) (sym is) (held.0, sym held.1))
-  stands_as back given v t (IsInst i at operand) = subst (λ (o : Operand). S.StandsFor same_places plan (llvm.operand back o) (At v)) (sym operand) (value_at i v at)
+  module _ (ruled : HasRules g) where
+    stands_as : (back : Setting) (given : Value → List (Operand × ℕ)) (v : Value) (t : TypeTree) → OperandIs g form n order given v t → S.StandsFor same_places plan (llvm.operand back (operand_for g n v)) (At v)
+    stands_as back given v t (IsParam i b is entry type operand) =
+        let lt = slice_get_within form.entry.args i t type in
+        subst (λ (o : Operand). S.StandsFor same_places plan (llvm.operand back o) (At v)) (sym operand)
+        (cond-true (nat_eq n.function n.function && nat_lt i (length form.entry.args)) (Some (Argument (record { 0 = form.entry.number }) i)) None
+        (and_from (nat_eq n.function n.function) (nat_lt i (length form.entry.args)) (eq-eqb n.function n.function refl) (lt-ltb i (length form.entry.args) lt))
+        ∙ ap (λ (m : ℕ). Some (Argument (record { 0 = m }) i)) (sym entry) ∙ ap Some (sym is))
+    stands_as back given v t (IsConst j k c o here at is constant type operand) =
+        let op = within_at c.ops (IsFormOp g) (within_at g.blocks (IsFormBlock g) form.blocks j c here).ops k o at in
+        let held = has_constant j k c o here at (rename same_places (llvm.const_term back (constant_of o.result o.kind))) (constant_holds setting back g o o.kind constant op.kind op.short (op_ruled g ruled j k c o here at)) in
+        subst (λ (o : Operand). S.StandsFor same_places plan (llvm.operand back o) (At v)) (sym operand)
+        (subst (λ (w : Value). S.StandsFor same_places plan (llvm.operand back (L.Constant (constant_of o.result o.kind))) (At w)) (sym is) (held.0, sym held.1))
+    stands_as back given v t (IsInst i at operand) = subst (λ (o : Operand). S.StandsFor same_places plan (llvm.operand back o) (At v)) (sym operand) (value_at i v at)
 
-  pub stands : (back : Setting) (v : Value) (t : TypeTree) → value_type g v ≡ Some t → S.StandsFor same_places plan (llvm.operand back (operand_for g n v)) (At v)
-  stands back v t e = stands_as back (λ v. []) v t (operand_is g form n order (λ v. []) v t e)
+    pub stands : (back : Setting) (v : Value) (t : TypeTree) → value_type g v ≡ Some t → S.StandsFor same_places plan (llvm.operand back (operand_for g n v)) (At v)
+    stands back v t e = stands_as back (λ v. []) v t (operand_is g form n order (λ v. []) v t e)

@@ -3,15 +3,17 @@ use Rattle.std.proofs.Common.{◌≡◌, ◌<◌, ◌≤◌, ℕ, Bool, [], ◌�
 use Rattle.std.specs.Prelude.{IsTrue, ◌↔◌}
 use Rattle.std.specs.List.{filter_map, flat_map}
 use Rattle.support.proofs.ListLaws.{all_from}
-use Rattle.dialect_types.specs.Trees.{type_trees}
+use Rattle.dialect_types.specs.Trees.{structs_of, type_trees}
 use Rattle.dialect_core.specs.declared.numbers.OpRef.{OpRef}
 use Rattle.dialect_core.specs.declared.numbers.BlockRef.{BlockRef}
 use Rattle.dialect_core.specs.declared.ops.OpKind.TheVariants as K
 use Rattle.dialect_core.specs.Lists.{list_at}
 use Rattle.dialect_core.specs.ContextData.{ContextData, IsSymbol, kind_at, region_at}
 use Rattle.dialect_core.specs.Data.{IsTyped, func_in, held, data_of, type_in}
+use Rattle.dialect_core.specs.Form.{IsRuled}
 use Rattle.dialect_core.specs.WellFormed.{IsPlainAt, IsNarrow, IsNarrowFunc, IsOpenForm, IsWellFormed, IsWellFormedFunc}
 use Rattle.dialect_core.proofs.LineLemmas.{all_at}
+use Rattle.dialect_core.proofs.PlainLaws.{functions_ruled}
 use Rattle.to_llvm_ir.specs.Held.{IsReadable}
 use Rattle.to_llvm_ir.proofs.FuncDataLaws.{IsNarrowHere, held_alone, module_narrow}
 
@@ -21,7 +23,7 @@ readable c m there typed w narrow = record {
   kind = w.kind;
   region = w.region;
   typed = typed;
-  functions = all_from (IsOpenForm c) (data_of c m).functions (λ k g at. (all_at (IsWellFormedFunc (type_in c)) (data_of c m).functions w.functions k g at, all_at IsNarrowFunc (data_of c m).functions narrow k g at));
+  functions = all_from (IsOpenForm c) (data_of c m).functions (λ k g at. (all_at (IsWellFormedFunc (type_in c)) (data_of c m).functions w.functions k g at, all_at IsNarrowFunc (data_of c m).functions narrow k g at, all_at (IsRuled (structs_of c.types)) (data_of c m).functions (functions_ruled c m w.plain) k g at));
 }
 
 -- a module without a block has no functions

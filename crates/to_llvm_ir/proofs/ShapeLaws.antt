@@ -33,6 +33,7 @@ use Rattle.to_llvm_ir.specs.Accepted.{IsAccepted}
 use Rattle.to_llvm_ir.specs.Exported.{result}
 use Rattle.to_llvm_ir.specs.Made.{Numbers, number_of, operand_for, instruction_for, inst, insts, phis, block_phis, block_made, function_made, entries, number_past, number_after}
 use Rattle.to_llvm_ir.specs.Links.{HasTarget}
+use Rattle.to_llvm_ir.specs.Functions.{HasRules}
 use Rattle.to_llvm_ir.proofs.ListLaws.{all_at, find_numbered, position_numbered}
 use Rattle.to_llvm_ir.proofs.TurnLaws.{argument_among, result_among, turn_at}
 use Rattle.to_llvm_ir.proofs.LookupLaws.{op_form, place_is, block_found}
@@ -46,7 +47,7 @@ edges_match : {A B X : Type 0} (P : A → B → Type 0) (f : ℕ → A) (t : X �
 edges_match P f t h [] same = tt
 edges_match P f t h (x ∷ xs) same = (same 0 x refl, edges_match P f t h xs (λ i y at. same (suc i) y at))
 
-module _ (back setting : Setting) (g : Func) (form : IsFormFunc g) (n : Numbers) (order : IsOrder (length g.blocks) n.order) where
+module _ (back setting : Setting) (g : Func) (form : IsFormFunc g) (ruled : HasRules g) (n : Numbers) (order : IsOrder (length g.blocks) n.order) where
   abbrev made : Function
   made = function_made g n (entries g n)
 
@@ -57,7 +58,7 @@ module _ (back setting : Setting) (g : Func) (form : IsFormFunc g) (n : Numbers)
   Alike = S.StandsFor same_places (plan setting g form n order)
 
   typed_alike : (v : Value) (t : TypeTree) → value_type g v ≡ Some t → rename_type same_places (operand_type made (operand_for g n v)) ≡ option_type (value_type g v)
-  typed_alike v t e = type_stays (operand_type made (operand_for g n v)) ∙ operand_typed g form n order (entries g n) v t e ∙ ap option_type (sym e)
+  typed_alike v t e = type_stays (operand_type made (operand_for g n v)) ∙ operand_typed g form n order (entries g n) ruled v t e ∙ ap option_type (sym e)
 
   -- ---- rows
 
@@ -71,7 +72,7 @@ module _ (back setting : Setting) (g : Func) (form : IsFormFunc g) (n : Numbers)
 
   values_stand : (vs : List Value) → All (IsHeldValue g) vs → Matched Alike (map (llvm.operand back) (map (operand_for g n) vs)) (map At vs)
   values_stand [] h = tt
-  values_stand (v ∷ vs) h = let one = All-head (IsHeldValue g) v vs h in (stands setting g form n order back v one.0 one.1.typed, values_stand vs (All-tail (IsHeldValue g) v vs h))
+  values_stand (v ∷ vs) h = let one = All-head (IsHeldValue g) v vs h in (stands setting g form n order ruled back v one.0 one.1.typed, values_stand vs (All-tail (IsHeldValue g) v vs h))
 
   -- the row of what an operation becomes, where the next value has the number k
   pub record IsPaired (k : ℕ) (o : DialectOp) : Type 0 where
@@ -157,7 +158,7 @@ module _ (back setting : Setting) (g : Func) (form : IsFormFunc g) (n : Numbers)
     entry_alike j l i c s v t at at' passes typed =
         let equal = (accepted.edges j c at).equal in
         let found = first_entry g n n.order (turn_of n.order j) j c (n.block + (0 + j)) i s.block v s.args l s (turn_at (length g.blocks) n.order order j (slice_get_within g.blocks j c at)) at (let e : n.block + (0 + j) ≡ n.block + j = omega arith in e) at' refl (λ k u there to. equal k l u s there at' (same_block u s to)) passes in
-        subst (λ (o : Option (Operand × ℕ)). BothOrNone Alike (option_map (λ (e : Operand × ℕ). llvm.operand back e.0) o) (Some (At v))) (sym found) (stands setting g form n order back v t typed)
+        subst (λ (o : Option (Operand × ℕ)). BothOrNone Alike (option_map (λ (e : Operand × ℕ). llvm.operand back e.0) o) (Some (At v))) (sym found) (stands setting g form n order ruled back v t typed)
       where
         same_block : (u s : Successor) → u.block.0 ≡ s.block.0 → u.block ≡ s.block
         same_block u s e = ap (λ (m : ℕ). let b : BlockRef = record { 0 = m } in b) e

@@ -16,7 +16,7 @@ use Rattle.llvm_core.specs.Data.{Function, Block, Placed, ModuleData, trees_of, 
 use Rattle.support.proofs.ListLaws.{slice_get-push}
 use Rattle.llvm_core.proofs.FreshLemmas.{blocks_below, insts_below}
 use Rattle.kinds.specs.Types.{types_list}
-use Rattle.dialect_types.specs.Trees.{TypeTree, type_trees}
+use Rattle.dialect_types.specs.Trees.{TypeTree, structs_of, type_trees}
 use Rattle.dialect_core.specs.declared.numbers.OpRef.{OpRef}
 use Rattle.dialect_core.specs.ContextData.{ContextData}
 use Rattle.dialect_core.specs.Data.{DialectBlock, Func, llvm_name_of, func_in}
@@ -25,7 +25,7 @@ use Rattle.to_llvm_ir.specs.Order.{IsTaken}
 use Rattle.to_llvm_ir.specs.Growth.{IsTypeOf}
 use Rattle.to_llvm_ir.specs.Made.{Numbers, function_with}
 use Rattle.to_llvm_ir.specs.States.{Task}
-use Rattle.to_llvm_ir.specs.Functions.{IsStarted}
+use Rattle.to_llvm_ir.specs.Functions.{IsRuledForm, IsStarted}
 use Rattle.to_llvm_ir.proofs.LookupLaws.{entry_at}
 use Rattle.to_llvm_ir.proofs.OpeningLaws.{numbers_below, params_are, names_are}
 
@@ -60,8 +60,8 @@ declared_is g form order m0 m1 m2 ty f name h named =
     ∙ ap (λ (t : L.TypeTree). with_function (data_of m0) (record { number = f.0; name = llvm_name_of g; type = t; space = 0; params = unnamed m1 ty; blocks = [] })) h.typed.1
     ∙ ap (λ (ns : List (List ℕ)). with_function (data_of m0) (record { number = f.0; name = llvm_name_of g; type = g.type; space = 0; params = ns; blocks = [] })) names
 
-pub started : (c : ContextData) (op : OpRef) (g : Func) (form : IsFormFunc g) (order : List ℕ) (taken : IsTaken g order) (m0 m1 m2 : Module) (ty : LLVMType) (f : LLVMFunction) (name : List ℕ) → func_in (type_trees c.types) c op ≡ Some g → IsAdded m0 m1 m2 ty f name g.type → name ≡ llvm_name_of g → IsStarted c g order f m0 m2
-started c op g form order taken m0 m1 m2 ty f name is h named =
+pub started : (c : ContextData) (op : OpRef) (g : Func) (form : IsRuledForm c g) (order : List ℕ) (taken : IsTaken g order) (m0 m1 m2 : Module) (ty : LLVMType) (f : LLVMFunction) (name : List ℕ) → (data_of m0).structs ≡ structs_of c.types → func_in (type_trees c.types) c op ≡ Some g → IsAdded m0 m1 m2 ty f name g.type → name ≡ llvm_name_of g → IsStarted c g order f m0 m2
+started c op g form order taken m0 m1 m2 ty f name structs is h named =
     let kept : FunctionData = record { name = name; ty = ty; space = 0; params = unnamed m1 ty; blocks = [] } in
     let t : Task = record { source = g; numbers = numbers_of m1 f order; before = data_of m0 } in (
       t,
@@ -71,14 +71,16 @@ started c op g form order taken m0 m1 m2 ty f name is h named =
       record {
         op = op;
         held = is;
-        form = form;
+        form = form.0;
+        ruled = form.1;
+        structs = structs;
         order = taken;
         functions = subst (λ (d : ModuleData). All (λ (x : Function). x.number < f.0) d.functions) h.same (subst (λ (n : ℕ). All (λ (x : Function). x.number < n) (data_of m1).functions) (sym h.number) (numbers_below m1));
         blocks = subst (AllBlocks (λ (b : Block). b.number < length m1.blocks)) h.same (blocks_below m1 h.sound);
         insts = subst (AllPlaced (λ (p : Placed). p.number < length m1.insts)) h.same (insts_below m1 h.sound);
       },
       record {
-        is = declared_is g form order m0 m1 m2 ty f name h named;
+        is = declared_is g form.0 order m0 m1 m2 ty f name h named;
         sound = h.sound_end;
         number = refl;
         function = record {

@@ -1,6 +1,5 @@
 -- One operation more is done: what the state is behind it.
 use Rattle.std.proofs.Common.{◌≡◌, ◌+◌, ℕ, suc, Bool, true, false, not, cond, List, [], ◌∷◌, ◌++◌, Option, Some, None, length, map, take, drop, slice_get, refl, sym, ap, subst, ◌∙◌, arith, append_assoc, length-append}
-use Rattle.std.specs.Option.{option_map}
 use Rattle.std.proofs.lemmas.Bool.{cond-true, cond-false}
 use Rattle.std.proofs.lemmas.List.{append-nil, map_push, map-append}
 use Rattle.std.proofs.lemmas.List.Elements.{filter-append}
@@ -8,17 +7,14 @@ use Rattle.llvm_core.specs.declared.numbers.LLVMConst.{LLVMConst}
 use Rattle.llvm_core.specs.declared.numbers.LLVMBasicBlock.{LLVMBasicBlock}
 use Rattle.llvm_core.specs.declared.numbers.LLVMInstRef.{LLVMInstRef}
 use Rattle.llvm_core.specs.declared.types.ResultType.{ResultType}
-use Rattle.llvm_core.specs.declared.consts.LLVMConstKind.{LLVMConstKind}
 use Rattle.llvm_core.specs.declared.code.LLVMValue.TheVariants as V
 use Rattle.llvm_core.specs.declared.code.LLVMInst.{LLVMInst}
-use Rattle.support.specs.Interned.{Interned}
 use Rattle.llvm_core.specs.Module.{Module}
 use Rattle.llvm_core.specs.Sound.{IsModule}
-use Rattle.llvm_core.specs.Parts.{const_type, result_type}
+use Rattle.llvm_core.specs.Parts.{result_type}
 use Rattle.llvm_core.specs.Data as L
-use Rattle.llvm_core.specs.Data.{Placed, ModuleData, const_at, const_tree, trees_of, instruction_of, result_tree, data_of, with_function, with_instruction}
-use Rattle.llvm_core.proofs.DataLemmas.{const_tree_of}
-use Rattle.dialect_types.specs.Trees.{TypeTree}
+use Rattle.llvm_core.specs.Data.{Placed, ModuleData, trees_of, instruction_of, result_tree, data_of, with_function, with_instruction}
+use Rattle.dialect_types.specs.Trees.{TypeTree, structs_of}
 use Rattle.block_order.specs.Order.{IsOrder}
 use Rattle.dialect_core.specs.declared.numbers.OpRef.{OpRef}
 use Rattle.dialect_core.specs.declared.ops.Value.{Value}
@@ -37,9 +33,8 @@ use Rattle.to_llvm_ir.proofs.ListLaws.{take_suc, split_at, at_middle}
 use Rattle.to_llvm_ir.proofs.TurnLaws.{by_split}
 use Rattle.to_llvm_ir.proofs.PlacedLaws.{number_at, constant_operand, result_operand}
 use Rattle.to_llvm_ir.proofs.FormLaws.{insts_push}
-use Rattle.to_llvm_ir.proofs.GrowthLaws.{grows_const, grows_then, type_kept}
+use Rattle.to_llvm_ir.proofs.GrowthLaws.{grows_then}
 use Rattle.to_llvm_ir.proofs.BuildLaws.{IsBuilt, grows_built, built_blocks, built_insts, built_type, data_within}
-use Rattle.to_llvm_ir.proofs.ConstLaws.{constant_of}
 use Rattle.to_llvm_ir.proofs.ConstOpLaws.{IsConstFor}
 use Rattle.to_llvm_ir.proofs.OpLaws.{spot_type, spot_parts}
 use Rattle.to_llvm_ir.proofs.KnownLaws.{known_set, known_void}
@@ -144,7 +139,7 @@ module _ (c : ContextData) (op : OpRef) (s : Spot) (values' : Values) (m : Modul
         ∙ ap (λ (q : Placed). with_function s.task.before (function_with g n (blocks_within s.task s.place (ps ++ q ∷ [])))) placed_is
         ∙ ap (λ (qs : List Placed). with_function s.task.before (function_with g n (blocks_within s.task s.place qs)))
         (append_assoc (block_phis g n no_entries s.place (first_at g s.place) s.block) (insts g n first ops) (p ∷ [])
-        ∙ ap (λ (qs : List Placed). block_phis g n no_entries s.place (first_at g s.place) s.block ++ qs) (sym (insts_push g next.spot.task.form n next.spot.task.order.once first ops s.op made.other) ∙ ap (insts g n first) (sym ops_more)))
+        ∙ ap (λ (qs : List Placed). block_phis g n no_entries s.place (first_at g s.place) s.block ++ qs) (sym (insts_push g next.spot.task.form (structs_of c.types, next.spot.task.ruled) n next.spot.task.order.once first ops s.op made.other) ∙ ap (insts g n first) (sym ops_more)))
 
     count_is : length new.insts ≡ n.inst + length (values_to s.task (turn s.task s.place) ++ (phi_values s.place s.block ++ result_values (take (suc s.at) s.block.ops)))
     count_is =
@@ -191,15 +186,11 @@ module _ (c : ContextData) (op : OpRef) (s : Spot) (values' : Values) (m : Modul
 
   -- ---- constants
 
-  pub constant_done : (type : TypeTree) (kind : LLVMConstKind) (k : LLVMConst) (m1 m2 : Module) (values'' : Values) → IsConstFor s.op type m1 kind → Grows m m1 → m1 ≡ record m { types = m1.types } → data_of m1 ≡ data_of m
-      → Interned m1.consts m2.consts kind k.0 → m2 ≡ record m1 { consts = m2.consts } → data_of m2 ≡ data_of m1 → IsModule m2
+  pub constant_done : (type : TypeTree) (k : LLVMConst) (m1 m2 : Module) (values'' : Values) → IsConstFor s.op type m2 k → Grows m m1 → m1 ≡ record m { types = m1.types } → data_of m1 ≡ data_of m
+      → Grows m1 m2 → m2 ≡ record m1 { consts = m2.consts } → data_of m2 ≡ data_of m1 → IsModule m2
       → values''.next ≡ values'.next + 1 → IsSet (found values') (found values'') (Result op) (V.Const k) → IsBehindSpot s values'' m2
-  constant_done type kind k m1 m2 values'' const g1 rest1 data1 interned rest2 data2 sound counted set =
-      let g2 = grows_const m1 m2 kind k.0 interned rest2 in
+  constant_done type k m1 m2 values'' const g1 rest1 data1 g2 rest2 data2 sound counted set =
       let grows = grows_then m m1 m2 g1 g2 in
-      let ty2 = type_kept m1 m2 (const_type kind) type g2 const.typed in
-      let tree : const_at (trees_of m2).consts k ≡ constant_of s.op.result s.op.kind =
-      const_tree_of m2 k kind interned.here (sound.consts_below k.0 kind interned.here) ∙ ap (λ (x : Module). const_tree (trees_of x).types (trees_of m2).consts kind) rest2 ∙ const.tree (trees_of m2).consts in
       let key : Result op ≡ result s.op = ap (λ (i : ℕ). Result (record { 0 = i })) (sym (spot_parts c op s next.spot).number) in
       let operand = constant_operand g next.spot.task.form n next.spot.task.order.once no_entries s.place s.at (record { 0 = s.op.number }) s.block s.op next.spot.here next.spot.there refl const.constant in
       record {
@@ -214,8 +205,8 @@ module _ (c : ContextData) (op : OpRef) (s : Spot) (values' : Values) (m : Modul
             (known_set g n (seen_to s.task (turn s.task s.place) ++ (arguments_of s.block ++ map result ops)) values' values'' m m2 (result s.op) (V.Const k) type next.state.sound grows (spot_type c op s next.spot ∙ const.result)
             (subst (λ (v : Value). IsSet (found values') (found values'') v (V.Const k)) key set)
             (record {
-              typed = (const_type kind, ap (option_map const_type) interned.here, ty2.1);
-              stands = ap L.Constant tree ∙ sym operand;
+              typed = const.typed;
+              stands = ap L.Constant const.tree ∙ sym operand;
               phi = λ i e a. absurd a;
             }) next.state.known);
       }

@@ -7,7 +7,6 @@ use Rattle.std.proofs.lemmas.List.{append-nil}
 use Rattle.std.proofs.lemmas.List.Concat.{flat_map-append}
 use Rattle.support.proofs.ListLaws.{slice_get-kept}
 use Rattle.dialect_types.specs.Trees.{TypeTree}
-use Rattle.const_attrs.specs.Trees.{IntegerAttr, FilledAttr, BytesAttr, AggregateAttr, SplatAttr}
 use Rattle.std.specs.Cmp.Lexicographic.{pointwise}
 use Rattle.std.proofs.lemmas.Slice.Eq.{slice_eq-Decides}
 use Rattle.dialect_core.specs.declared.numbers.OpRef.{OpRef}
@@ -39,11 +38,7 @@ use Rattle.kinds.proofs.TableLaws.{leads_few}
 -- ---- how many edges an operation has
 
 pub few : (g : Func) (vs : List Value) (own : Option TypeTree) (ss : List Successor) (k : Kind) → IsOfKind (value_type g) g vs own ss k → length ss < 3
-few g vs own ss (ConstantOp (IntegerAttr t v)) h = rw h.ends_here (omega arith)
-few g vs own ss (ConstantOp (FilledAttr fill type)) h = absurd h
-few g vs own ss (ConstantOp (BytesAttr bytes)) h = absurd h
-few g vs own ss (ConstantOp (AggregateAttr elements type)) h = absurd h
-few g vs own ss (ConstantOp (SplatAttr element type)) h = absurd h
+few g vs own ss (ConstantOp constant) h = rw h.ends_here (omega arith)
 few g vs own ss (FilledOp fill) h = rw h.ends_here (omega arith)
 few g vs own ss (RowOp op) h = let e = h.leads.0 in let f = leads_few op in omega (arith, e, f)
 
@@ -63,11 +58,7 @@ goes_on L.On e = refl
 goes_on (L.To n) e = cc
 
 silent_kind : (g : Func) (vs : List Value) (own : Option TypeTree) (ss : List Successor) (k : Kind) → is_terminator_kind k ≡ false → IsOfKind (value_type g) g vs own ss k → ss ≡ []
-silent_kind g vs own ss (ConstantOp (IntegerAttr t v)) e h = h.ends_here
-silent_kind g vs own ss (ConstantOp (FilledAttr fill type)) e h = absurd h
-silent_kind g vs own ss (ConstantOp (BytesAttr bytes)) e h = absurd h
-silent_kind g vs own ss (ConstantOp (AggregateAttr elements type)) e h = absurd h
-silent_kind g vs own ss (ConstantOp (SplatAttr element type)) e h = absurd h
+silent_kind g vs own ss (ConstantOp constant) e h = h.ends_here
 silent_kind g vs own ss (FilledOp fill) e h = h.ends_here
 silent_kind g vs own ss (RowOp op) e h = none_of ss (h.leads.0 ∙ goes_on (rule_of op).leads e)
 

@@ -6,11 +6,11 @@ use Rattle.llvm_core.specs.declared.numbers.LLVMType.{LLVMType}
 use Rattle.llvm_core.specs.Module.{Module}
 use Rattle.llvm_core.specs.Data as L
 use Rattle.llvm_core.specs.Data.{ModuleData, data_of, with_function}
-use Rattle.dialect_types.specs.Trees.{type_trees}
+use Rattle.dialect_types.specs.Trees.{NamedStruct, structs_of, type_trees}
 use Rattle.dialect_core.specs.declared.numbers.OpRef.{OpRef}
 use Rattle.dialect_core.specs.ContextData.{ContextData, region_at}
 use Rattle.dialect_core.specs.Data.{Func, DialectBlock, block_in, func_in}
-use Rattle.dialect_core.specs.Form.{IsFormFunc}
+use Rattle.dialect_core.specs.Form.{IsFormFunc, IsRuled}
 use Rattle.meaning.specs.Pairs.{Matched}
 use Rattle.to_llvm_ir.specs.Order.{IsTaken}
 use Rattle.to_llvm_ir.specs.Made.{Numbers, function_made, entries}
@@ -26,11 +26,21 @@ blocks_of c o = filter_map (block_in (type_trees c.types) c) (region_at c.ops o.
 abbrev pub functions_in : ContextData → List OpRef → List Func
 functions_in c ops = filter_map (func_in (type_trees c.types) c) ops
 
+-- a function of the form, whose constants keep the rules by the structs of the context
+abbrev pub IsRuledForm : ContextData → Func → Type 0
+IsRuledForm c g = IsFormFunc g × IsRuled (structs_of c.types) g
+
+-- the constants of the function keep the rules, where some structs are those with a name
+abbrev pub HasRules : Func → Type 0
+HasRules g = (structs : List NamedStruct) × IsRuled structs g
+
 -- The function f is the one that is made of g, with some numbers: the term is computed from g and from these. And what was
--- found of g: it is of the form, its blocks are taken in an order of an export, and nothing of it is refused.
+-- found of g: it is of the form, its constants keep the rules, its blocks are taken in an order of an export, and nothing of it is
+-- refused.
 pub record IsMadeOf (g : Func) (f : L.Function) : Type 0 where
   pub numbers : Numbers
   pub form : IsFormFunc g
+  pub ruled : HasRules g
   pub taken : IsTaken g numbers.order
   pub accepted : IsAccepted numbers.order g
   pub is : f ≡ function_made g numbers (entries g numbers)

@@ -5,6 +5,7 @@ pub mod Made
 pub mod Accepted
 pub mod Held
 pub mod Growth
+pub mod Constants
 pub mod RunMaps
 pub mod States
 pub mod Ordering

@@ -1,11 +1,12 @@
 -- The function of LLVM that an export makes of a function of the dialect, as one term.
-use Rattle.std.specs.Prelude.{◌+◌, ℕ, zero, suc, Bool, false, nat_eq, if◌then◌else◌, List, [], ◌∷◌, ◌++◌, Option, Some, None, length, map, slice_get}
+use Rattle.std.specs.Prelude.{◌+◌, ℕ, zero, suc, Bool, false, nat_eq, if◌then◌else◌, List, [], ◌∷◌, ◌++◌, Option, Some, None, length, map, slice_get, unwrap_or}
 use Rattle.std.specs.List.{flat_map, find}
 use Rattle.std.specs.Option.{option_map_or}
 use Rattle.llvm_core.specs.Data as L
-use Rattle.llvm_core.specs.Data.{ConstTree, IntConst, PlaceholderConst, filled_const, Operand, Parameter, Constant, RowData, Instruction, Placed}
+use Rattle.llvm_core.specs.Elements.{splat_const}
+use Rattle.llvm_core.specs.Data.{ConstTree, IntConst, BytesConst, PlaceholderConst, ConstTrees, NoConsts, ThenConst, filled_const, formed, listed, Operand, Parameter, Constant, RowData, Instruction, Placed}
 use Rattle.dialect_types.specs.Trees.{TypeTree, VoidType}
-use Rattle.const_attrs.specs.Trees.{AttrTree, IntegerAttr, FilledAttr, BytesAttr, AggregateAttr, SplatAttr}
+use Rattle.const_attrs.specs.Trees.{AttrTree, IntegerAttr, FilledAttr, BytesAttr, AggregateAttr, SplatAttr, AttrTrees, NoAttrs, ThenAttr}
 use Rattle.dialect_core.specs.declared.numbers.BlockRef.{BlockRef}
 use Rattle.dialect_core.specs.declared.ops.Value.{Value}
 use Rattle.dialect_core.specs.declared.ops.Value.TheVariants.{Result, Argument}
@@ -62,13 +63,19 @@ values_by order g = flat_map (block_values g) order
 
 -- ---- operands
 
-abbrev pub const_of : AttrTree → ConstTree
-const_of (IntegerAttr type value) = IntConst (width_in type) value
-const_of (FilledAttr fill type) = filled_const fill type
--- of no other is there one yet, and no operation of the form holds one
-const_of (BytesAttr bytes) = PlaceholderConst 0 VoidType
-const_of (AggregateAttr elements type) = PlaceholderConst 0 VoidType
-const_of (SplatAttr element type) = PlaceholderConst 0 VoidType
+abbrev mutual
+  -- The constant that an attribute becomes, in the one form: bytes and lists may be zero, undef or poison. A splat that breaks the rules of
+  -- constants becomes a placeholder.
+  pub const_of : AttrTree → ConstTree
+  const_of (IntegerAttr type value) = IntConst (width_in type) value
+  const_of (FilledAttr fill type) = filled_const fill type
+  const_of (BytesAttr bytes) = formed (BytesConst bytes)
+  const_of (AggregateAttr elements type) = listed type (consts_of elements)
+  const_of (SplatAttr element type) = unwrap_or (splat_const type (const_of element)) (PlaceholderConst 0 VoidType)
+
+  pub consts_of : AttrTrees → ConstTrees
+  consts_of NoAttrs = NoConsts
+  consts_of (ThenAttr c cs) = ThenConst (const_of c) (consts_of cs)
 
 -- the constant of a constant operation, with a result of that type; for any other operation the other operand
 abbrev pub constant_or : Operand → (result : Option TypeTree) → Kind → Operand

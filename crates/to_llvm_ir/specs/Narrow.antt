@@ -19,7 +19,7 @@ use Rattle.dialect_core.specs.Checking.{func_at, tree_at}
 
 -- ---- operations
 
--- a zero of that type is of at most 64 bits, where an operation of the kind makes one that is an integer
+-- the constant of that type is translated that an operation of the kind makes or holds
 abbrev pub IsShortOp : ContextData → OpKind → TypeTree → Type 0
 IsShortOp c k type = IfSome (kind_of (type_trees c.types) k) (λ (d : Kind). IsShortKind d type)
 
@@ -27,7 +27,7 @@ IsShortOp c k type = IfSome (kind_of (type_trees c.types) k) (λ (d : Kind). IsS
 abbrev pub IsShortAt : ContextData → OpRef → TypeTree → Type 0
 IsShortAt c o type = IfSome (kind_at c.ops o) (λ (k : OpKind). IsShortOp c k type)
 
--- its result, where it has one, is of a type that is translated, and a zero is of at most 64 bits
+-- its result, where it has one, is of a type that is translated, and so is its constant
 abbrev pub IsNarrowAt : ContextData → OpRef → Type 0
 IsNarrowAt c o = IfSome (option_and_then (λ (x : OpData). x.result) (slice_get c.ops o.0)) (λ (t : TypeHandle). IsHeld (tree_at c t) × IsShortAt c o (tree_at c t))
 

@@ -16,7 +16,7 @@ use Rattle.llvm_core.specs.Sound.{IsModule}
 use Rattle.llvm_core.specs.Parts.{IsPhi, HasValues, IsResultOver, result_type}
 use Rattle.llvm_core.specs.Data as L
 use Rattle.llvm_core.specs.Data.{Operand, Placed, trees_of, operand_of, instruction_of, result_tree, data_of, with_function, AllBlocks, AllPlaced}
-use Rattle.dialect_types.specs.Trees.{TypeTree, type_trees}
+use Rattle.dialect_types.specs.Trees.{TypeTree, structs_of, type_trees}
 use Rattle.dialect_core.specs.declared.numbers.OpRef.{OpRef}
 use Rattle.dialect_core.specs.declared.numbers.BlockRef.{BlockRef}
 use Rattle.dialect_core.specs.declared.ops.Value.{Value}
@@ -24,7 +24,7 @@ use Rattle.dialect_core.specs.declared.ops.Value.TheVariants.{Result, Argument}
 use Rattle.dialect_core.specs.declared.ops.Successor.{Successor}
 use Rattle.dialect_core.specs.ContextData.{ContextData}
 use Rattle.dialect_core.specs.Data.{DialectOp, DialectBlock, Func, op_at, block_in, func_in, value_type}
-use Rattle.dialect_core.specs.Form.{IsFormFunc, uses_of, is_constant}
+use Rattle.dialect_core.specs.Form.{IsFormFunc, IsRuled, uses_of, is_constant}
 use Rattle.meaning.specs.Pairs.{Matched}
 use Rattle.meaning.specs.Dialect.{option_type}
 use Rattle.to_llvm_ir.specs.declared.values.Values.{Values}
@@ -81,11 +81,13 @@ pub record Task : Type 0 where
   pub before : L.ModuleData
 
 -- the function of the context is of the form, the order is that of an export, and the numbers of the module before are
--- below its own
+-- below its own; its constants keep the rules by the structs of the context, which are those of the module
 pub record IsTask (c : ContextData) (t : Task) : Type 0 where
   pub op : OpRef
   pub held : func_in (type_trees c.types) c op ≡ Some t.source
   pub form : IsFormFunc t.source
+  pub ruled : IsRuled (structs_of c.types) t.source
+  pub structs : t.before.structs ≡ structs_of c.types
   pub order : IsTaken t.source t.numbers.order
   pub functions : All (λ (f : L.Function). f.number < t.numbers.function) t.before.functions
   pub blocks : AllBlocks (λ (b : L.Block). b.number < t.numbers.block) t.before

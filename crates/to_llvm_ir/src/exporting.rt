@@ -9,7 +9,7 @@ ghost use Rattle.llvm_core.specs.Form.{IsForm};
 ghost use Rattle.held_types.specs.Held.{AreHeld};
 ghost use Rattle.dialect_types.specs.Trees.{structs_of, type_trees};
 ghost use Rattle.dialect_core.specs.Data.{Func, DialectModule, IsTyped, llvm_name_of, func_in, data_of};
-ghost use Rattle.dialect_core.specs.Form.{IsFormFunc, HasOnlyEntryConstants, HasTargets};
+ghost use Rattle.dialect_core.specs.Form.{HasOnlyEntryConstants, HasTargets};
 ghost use Rattle.dialect_core.specs.WellFormed.{IsOpenForm};
 ghost use Rattle.meaning.specs.Pairs.{Matched};
 ghost use Rattle.meaning.specs.Code.{SameCode, IsDistinctNames};
@@ -20,7 +20,7 @@ ghost use Rattle.to_llvm_ir.specs.Causes.{IsFuncCause};
 ghost use Rattle.to_llvm_ir.specs.Exported.{IsExported, HasTraces, IsCause};
 ghost use Rattle.to_llvm_ir.specs.Held.{IsReadable};
 ghost use Rattle.to_llvm_ir.specs.Order.{IsTaken};
-ghost use Rattle.to_llvm_ir.specs.Functions.{AddsFunction, AddsFunctions, IsStarted, functions_in};
+ghost use Rattle.to_llvm_ir.specs.Functions.{AddsFunction, AddsFunctions, IsRuledForm, IsStarted, functions_in};
 
 use crate::bodies::convert_blocks;
 use crate::conversion_context::ConversionContext;
@@ -56,8 +56,9 @@ fn start_func(
 ) -> Result<LLVMFunction, AllocError>
     requires typed { IsTyped ctx.now }
     requires within { op.0 < length ctx.now.ops }
-    requires form { (g : Func) × (func_in (type_trees ctx.now.types) ctx.now op ≡ Some g) × IsFormFunc g }
-    ensures { (g : Func) → func_in (type_trees ctx.now.types) ctx.now op ≡ Some g → IsFormFunc g → (order : List ℕ) → IsTaken g order → IfOk result (λ f. IsStarted ctx.now g order f back.old back.new) }
+    requires form { (g : Func) × (func_in (type_trees ctx.now.types) ctx.now op ≡ Some g) × IsRuledForm ctx.now g }
+    requires structs { (lists.data_of back.old).structs ≡ structs_of ctx.now.types }
+    ensures { (g : Func) → func_in (type_trees ctx.now.types) ctx.now op ≡ Some g → IsRuledForm ctx.now g → (order : List ℕ) → IsTaken g order → IfOk result (λ f. IsStarted ctx.now g order f back.old back.new) }
 {
     let ty = function_type(alloc, ctx, ctx.symbol_type(op), guesses, back)?;
     back.add_function(llvm_name_of(ctx, op), ty, 0)
@@ -73,10 +74,11 @@ fn convert_func(
 ) -> Result<(), ToLLVMErr>
     requires typed { IsTyped ctx.now }
     requires within { op.0 < length ctx.now.ops }
-    requires form { (g : Func) × (func_in (type_trees ctx.now.types) ctx.now op ≡ Some g) × IsFormFunc g }
+    requires form { (g : Func) × (func_in (type_trees ctx.now.types) ctx.now op ≡ Some g) × IsRuledForm ctx.now g }
     requires taken { (g : Func) → func_in (type_trees ctx.now.types) ctx.now op ≡ Some g → IsTaken g order.now }
-    ensures ok { (g : Func) → func_in (type_trees ctx.now.types) ctx.now op ≡ Some g → IsFormFunc g → OnOk result (AddsFunction g (lists.data_of cctx.old.«module») (lists.data_of cctx.new.«module»)) }
-    ensures cause { (g : Func) → func_in (type_trees ctx.now.types) ctx.now op ≡ Some g → IsFormFunc g → IfErr result (IsFuncCause ctx.now g) }
+    requires structs { (lists.data_of cctx.old.«module»).structs ≡ structs_of ctx.now.types }
+    ensures ok { (g : Func) → func_in (type_trees ctx.now.types) ctx.now op ≡ Some g → IsRuledForm ctx.now g → OnOk result (AddsFunction g (lists.data_of cctx.old.«module») (lists.data_of cctx.new.«module»)) }
+    ensures cause { (g : Func) → func_in (type_trees ctx.now.types) ctx.now op ≡ Some g → IsRuledForm ctx.now g → IfErr result (IsFuncCause ctx.now g) }
 {
     let list = ctx.op_blocks(op);
     check_few(list.len())?;
@@ -116,6 +118,7 @@ fn convert_held(
     requires typed { IsTyped ctx.now }
     requires within { op.0 < length ctx.now.ops }
     requires form { (g : Func) → func_in (type_trees ctx.now.types) ctx.now op ≡ Some g → IsOpenForm ctx.now g }
+    requires structs { (lists.data_of cctx.old.«module»).structs ≡ structs_of ctx.now.types }
     ensures ok { OnOk result (AddsFunctions (functions_in ctx.now (op ∷ [])) (lists.data_of cctx.old.«module») (lists.data_of cctx.new.«module»)) }
     ensures cause { IfErr result (λ e. (g : Func) → func_in (type_trees ctx.now.types) ctx.now op ≡ Some g → IsFuncCause ctx.now g e) }
     ensures skipped { func_in (type_trees ctx.now.types) ctx.now op ≡ None → result ≡ Ok tt }
@@ -138,6 +141,7 @@ fn convert_functions(
     requires typed { IsTyped ctx.now }
     requires within { All (λ o. o.0 < length ctx.now.ops) ops.now }
     requires forms { All (IsOpenForm ctx.now) (functions_in ctx.now ops.now) }
+    requires structs { (lists.data_of cctx.old.«module»).structs ≡ structs_of ctx.now.types }
     ensures ok { OnOk result (AddsFunctions (functions_in ctx.now ops.now) (lists.data_of cctx.old.«module») (lists.data_of cctx.new.«module»)) }
     ensures cause { (d : DialectModule) → d.functions ≡ functions_in ctx.now ops.now → IfErr result (IsCause ctx.now d) }
 {
@@ -154,7 +158,8 @@ fn convert_held_functions(
     module: ModuleOp,
     cctx: &mut ConversionContext,
 ) -> Result<(), ToLLVMErr>
-    requires { IsReadable ctx.now «module».0.0 }
+    requires readable { IsReadable ctx.now «module».0.0 }
+    requires structs { (lists.data_of cctx.old.«module»).structs ≡ structs_of ctx.now.types }
     ensures ok { OnOk result (AddsFunctions (data_of ctx.now «module».0.0).functions (lists.data_of cctx.old.«module») (lists.data_of cctx.new.«module»)) }
     ensures cause { IfErr result (IsCause ctx.now (data_of ctx.now «module».0.0)) }
 {

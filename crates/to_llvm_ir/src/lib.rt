@@ -5,6 +5,7 @@ pub mod arguments;
 pub mod blocks;
 pub mod bodies;
 pub mod building;
+pub mod constants;
 pub mod conversion_context;
 pub mod edges;
 pub mod exporting;

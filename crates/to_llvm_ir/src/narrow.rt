@@ -1,13 +1,11 @@
 //! Tests of operations, blocks and functions: whether they are as narrow as the form that is exported.
 
-ghost use Rattle.std.specs.Prelude.{◌≡◌, ◌<◌, ◌≤◌, ◌↔◌, IsTrue, All, Some, length};
-ghost use Rattle.kinds.specs.Held.{width_in};
-ghost use Rattle.dialect_types.specs.Trees.{type_at, type_trees};
+ghost use Rattle.std.specs.Prelude.{◌≡◌, ◌<◌, ◌↔◌, IsTrue, All, Some, length};
 ghost use Rattle.dialect_core.specs.declared.linkage.LinkageAttr.TheVariants.{ExternalLinkage};
 ghost use Rattle.dialect_core.specs.declared.ops.OpKind.TheVariants as kinds;
 ghost use Rattle.dialect_core.specs.Lists.{list_at};
 ghost use Rattle.dialect_core.specs.ContextData.{IsSymbol, kind_at};
-ghost use Rattle.dialect_core.specs.Data.{IsTyped, held};
+ghost use Rattle.dialect_core.specs.Data.{HasKindTypesBelow, IsTyped, held};
 ghost use Rattle.dialect_core.specs.WellFormed.{IsPlainAt, IsNarrowFunc};
 ghost use Rattle.dialect_core.specs.Checking.{func_at, tree_at};
 ghost use Rattle.to_llvm_ir.specs.Narrow.{IsShortOp, IsNarrowAt, IsNarrowBlockAt, AreNarrowBlocks, IsNarrowHead};
@@ -17,44 +15,27 @@ use dialect_core::context::Context;
 use dialect_core::linkage::LinkageAttr;
 use dialect_core::numbers::{BlockRef, OpRef};
 use dialect_core::ops::OpKind;
-use dialect_core::type_tests::{all_held, is_held, is_held_signature, shape_at};
+use dialect_core::type_tests::{all_held, is_held, is_held_signature, is_short, is_short_fill};
 use dialect_core::walking::{first_in_block, next_in_block};
-use dialect_types::type_store::TypeStore;
 use dialect_types::types::TypeHandle;
-use kinds::fitting::Shape;
 use kinds::names::is_good_name;
 
-/// The greatest width of an integer constant.
-const MAX_SHORT: u32 = 64;
-
-/// Whether a type has the width of an integer constant that is translated, where it is an integer type.
-fn is_short(types: &TypeStore, ty: TypeHandle) -> bool
-    requires { ty.0 < length types.now }
-    ensures { IsTrue result ↔ width_in (type_at (type_trees types.now) ty) ≤ 64 }
-{
-    match shape_at(types, ty) {
-        Shape::Int(width) => width <= MAX_SHORT,
-        _ => true,
-    }
-}
-
-/// Whether an operation makes no zero of an integer type, or one of at most 64 bits.
+/// Whether the constant of an operation is translated, where it makes or holds one.
 fn is_short_kind(ctx: &Context, kind: &OpKind, ty: TypeHandle) -> bool
-    requires { ty.0 < length ctx.now.types }
+    requires ty { ty.0 < length ctx.now.types }
+    requires kind { HasKindTypesBelow (length ctx.now.types) kind.now }
     ensures { IsTrue result ↔ IsShortOp ctx.now kind.now (tree_at ctx.now ty) }
 {
     match kind {
-        OpKind::Filled(fill) => {
-            fill.is_own(shape_at(ctx.types(), ty)) || is_short(ctx.types(), ty)
-        }
+        OpKind::Filled(fill) => is_short_fill(ctx.types(), *fill, ty),
         OpKind::Module => true,
         OpKind::Func => true,
-        OpKind::Constant(_) => true,
+        OpKind::Constant(value) => is_short(ctx.types(), value.attr()),
         OpKind::Row(_) => true,
     }
 }
 
-/// Whether the type of the result of an operation, where it has one, is translated, and a zero is short enough.
+/// Whether the type of the result of an operation, where it has one, is translated, and so is its constant.
 fn is_narrow_op(ctx: &Context, op: OpRef) -> bool
     requires op { op.0 < length ctx.now.ops }
     requires typed { IsTyped ctx.now }

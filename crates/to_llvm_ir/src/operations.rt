@@ -22,6 +22,7 @@ ghost use Rattle.to_llvm_ir.specs.States.{Task, Spot, IsSpot, IsNext, IsUsed, Is
 
 use crate::blocks::{Blocks, find_target};
 use crate::building::build_result;
+use crate::constants::const_for;
 use crate::guesses::Guesses;
 use crate::to_llvm_err::ToLLVMErr;
 use crate::types::value_type;
@@ -135,16 +136,16 @@ fn convert_constant(
     back: &mut LLVMModule,
 ) -> Result<(), AllocError>
     requires typed { IsTyped ctx.now }
+    requires within { op.0 < length ctx.now.ops }
     requires kind { kind_at ctx.now.ops op ≡ Some (kinds.Constant value.now) }
     requires spot { (s : Spot) × IsNext ctx.now op s values.old back.old }
     ensures { (s : Spot) → IsNext ctx.now op s values.old back.old → OnOk result (IsBehindSpot s values.new back.new) }
 {
-    let Some((ty, number)) = value.as_integer() else {
-        // An operation of the form holds no other constant.
+    let Some(ty) = ctx.result_type(op) else {
         unreachable!();
     };
     let ty = value_type(alloc, ctx, ty, guesses, back)?;
-    let c = back.const_get(LLVMConstKind::Int(ty, u128::from(number)))?;
+    let c = const_for(alloc, value, ty, back)?;
     values.set(Value::Result(op), LLVMValue::Const(c))
 }
 
@@ -342,7 +343,7 @@ fn convert_op(
     match ctx.op_kind(op) {
         OpKind::Module | OpKind::Func => Ok(()),
         OpKind::Constant(value) => {
-            convert_constant(alloc, ctx, op, value, guesses, values, back)?;
+            convert_constant(alloc, ctx, op, value.attr(), guesses, values, back)?;
             Ok(())
         }
         OpKind::Filled(fill) => {

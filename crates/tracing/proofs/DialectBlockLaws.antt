@@ -1,12 +1,12 @@
 -- The blocks of a function of the dialect, by their numbers in a context.
 use Rattle.std.proofs.Common.{◌≡◌, ◌<◌, ◌+◌, ℕ, zero, suc, cond, List, [], ◌∷◌, ◌++◌, Option, Some, None, All, length, map, filter, slice_get, get_or, refl, sym, ap, subst, ◌∙◌, arith}
 use Rattle.std.specs.Prelude.{is_some}
-use Rattle.std.specs.List.{filter_map, cons_option}
-use Rattle.std.specs.Option.{option_map}
+use Rattle.std.specs.List.{filter_map, cons_option, flat_map}
+use Rattle.std.specs.Option.{option_map, option_map_or}
 use Rattle.std.proofs.lemmas.List.{length-map}
 use Rattle.std.proofs.lemmas.List.Elements.{All-head, All-tail}
 use Rattle.std.proofs.lemmas.Option.{same_Some, none-some, slice_get-map}
-use Rattle.support.proofs.ListLaws.{item_there}
+use Rattle.support.proofs.ListLaws.{all_from, in_joined, item_there}
 use Rattle.support.specs.Interned.{IsDistinctList}
 use Rattle.dialect_types.specs.declared.types.TypeHandle.{TypeHandle}
 use Rattle.dialect_types.specs.Trees.{type_at, type_trees}
@@ -18,9 +18,10 @@ use Rattle.dialect_core.specs.declared.ops.Successor.{Successor}
 use Rattle.dialect_core.specs.declared.ops.OpData.{OpData}
 use Rattle.dialect_core.specs.declared.ops.BlockData.{BlockData}
 use Rattle.dialect_core.specs.Lists.{list_at}
-use Rattle.dialect_core.specs.ContextData.{ContextData}
+use Rattle.dialect_core.specs.ContextData.{ContextData, region_at}
 use Rattle.dialect_core.specs.Data.{DialectOp, DialectBlock, op_at, block_of, block_in, type_in}
-use Rattle.dialect_core.specs.WellFormed.{IsWellFormedOp, IsWellFormedBlock}
+use Rattle.dialect_core.specs.WellFormed.{IsPlainAt, IsWellFormedOp, IsWellFormedBlock}
+use Rattle.dialect_core.proofs.LineLemmas.{all_at}
 use Rattle.meaning.specs.Dialect.{start}
 use Rattle.meaning.specs.Pairs.{Matched}
 use Rattle.tracing.specs.declared.body.Slot.TheVariants.{Input}
@@ -32,11 +33,18 @@ use Rattle.tracing.proofs.DialectLaws.{kept_op, kept_block, kept_func}
 
 -- ---- the blocks of a function
 
+each_flat : {X Y : Type 0} (P : Y → Type 0) (f : X → List Y) (xs : List X) → All P (flat_map f xs) → All (λ (x : X). All P (f x)) xs
+each_flat {X} P f xs h = all_from (λ (x : X). All P (f x)) xs (λ i x at. all_from P (f x) (λ j y here. let k = in_joined f xs i j x y at here in all_at P (flat_map f xs) h k.0 y k.1))
+
 module _ (c : ContextData) (h : InContext c) where
+  -- the operations of the block are plain
+  abbrev HoldsPlain : BlockRef → Type 0
+  HoldsPlain b = All (IsPlainAt c) (list_at c.lists b)
+
   -- the blocks of the numbers, where each number is there
-  blocks_each : (bs : List BlockRef) → All (λ (b : BlockRef). b.0 < length c.blocks) bs → All (IsWellFormedBlock (type_in c) h.function) (filter_map (block_in (type_trees c.types) c) bs) → Matched (IsBlockIn c h) bs (filter_map (block_in (type_trees c.types) c) bs)
-  blocks_each [] within form = tt
-  blocks_each (b ∷ bs) within form =
+  blocks_each : (bs : List BlockRef) → All (λ (b : BlockRef). b.0 < length c.blocks) bs → All HoldsPlain bs → All (IsWellFormedBlock (type_in c) h.function) (filter_map (block_in (type_trees c.types) c) bs) → Matched (IsBlockIn c h) bs (filter_map (block_in (type_trees c.types) c) bs)
+  blocks_each [] within plain form = tt
+  blocks_each (b ∷ bs) within plain form =
       let kept = item_there c.blocks b.0 (All-head (λ (b : BlockRef). b.0 < length c.blocks) b bs within) in
       let y = block_of (type_trees c.types) c b kept.0 in
       let here : block_in (type_trees c.types) c b ≡ Some y = ap (option_map (block_of (type_trees c.types) c b)) kept.1 in
@@ -44,7 +52,7 @@ module _ (c : ContextData) (h : InContext c) where
       let all : All (IsWellFormedBlock (type_in c) h.function) (y ∷ rest) = subst (λ (o : Option DialectBlock). All (IsWellFormedBlock (type_in c) h.function) (cons_option o rest)) here form in
       let first = All-head (IsWellFormedBlock (type_in c) h.function) y rest all in
       subst (λ (o : Option DialectBlock). Matched (IsBlockIn c h) (b ∷ bs) (cons_option o rest)) (sym here)
-      (record { here = here; form = first }, blocks_each bs (All-tail (λ (b : BlockRef). b.0 < length c.blocks) b bs within) (All-tail (IsWellFormedBlock (type_in c) h.function) y rest all))
+      (record { here = here; form = first; plain = All-head HoldsPlain b bs plain }, blocks_each bs (All-tail (λ (b : BlockRef). b.0 < length c.blocks) b bs within) (All-tail HoldsPlain b bs plain) (All-tail (IsWellFormedBlock (type_in c) h.function) y rest all))
 
   -- the blocks of a function, as its operation lists them
   pub blocks_are : (o : OpRef) (bs : List BlockRef) → h.op ≡ o → option_map (λ (x : OpData). x.blocks) (slice_get c.ops o.0) ≡ Some bs → All (λ (b : BlockRef). b.0 < length c.blocks) bs → AreBlocksIn c h bs
@@ -52,7 +60,9 @@ module _ (c : ContextData) (h : InContext c) where
       let k = kept_func c h.op h.function h.is in
       let same : k.kept.blocks ≡ bs = same_Some k.kept.blocks bs (sym (ap (λ (r : OpRef). option_map (λ (x : OpData). x.blocks) (slice_get c.ops r.0)) (sym is) ∙ ap (option_map (λ (x : OpData). x.blocks)) k.there) ∙ listed) in
       let are : h.function.blocks ≡ filter_map (block_in (type_trees c.types) c) bs = k.blocks ∙ ap (filter_map (block_in (type_trees c.types) c)) same in
-      subst (Matched (IsBlockIn c h) bs) (sym are) (blocks_each bs within (subst (All (IsWellFormedBlock (type_in c) h.function)) are h.form.blocks))
+      let region : region_at c.ops h.op.0 ≡ bs = ap (λ (x : Option OpData). option_map_or (λ (x : OpData). x.blocks) x []) k.there ∙ same in
+      let plain = subst (All HoldsPlain) region (each_flat (IsPlainAt c) (list_at c.lists) (region_at c.ops h.op.0) h.plain) in
+      subst (Matched (IsBlockIn c h) bs) (sym are) (blocks_each bs within plain (subst (All (IsWellFormedBlock (type_in c) h.function)) are h.form.blocks))
 
   -- ---- the numbers of the blocks
 
@@ -132,11 +142,11 @@ inputs_next b n =
 pub ops_are : (c : ContextData) (h : InContext c) (b : BlockRef) (y : DialectBlock) → IsBlockIn c h b y → AreOpsIn c h (body_ops c b) y.ops
 ops_are c h b y at =
     let k = kept_block c b y at.here in
-    subst (Matched (IsOpIn c h) (body_ops c b)) (sym k.ops) (each (list_at c.lists b) (subst (All (IsWellFormedOp (type_in c) h.function)) k.ops at.form.ops))
+    subst (Matched (IsOpIn c h) (body_ops c b)) (sym k.ops) (each (list_at c.lists b) at.plain (subst (All (IsWellFormedOp (type_in c) h.function)) k.ops at.form.ops))
   where
-    each : (rs : List OpRef) → All (IsWellFormedOp (type_in c) h.function) (filter_map (op_at (type_trees c.types) c.ops) rs) → Matched (IsOpIn c h) (filter (is_op c) rs) (filter_map (op_at (type_trees c.types) c.ops) rs)
-    each [] form = tt
-    each (r ∷ rs) form = by (op_at (type_trees c.types) c.ops r) refl form (each rs)
+    each : (rs : List OpRef) → All (IsPlainAt c) rs → All (IsWellFormedOp (type_in c) h.function) (filter_map (op_at (type_trees c.types) c.ops) rs) → Matched (IsOpIn c h) (filter (is_op c) rs) (filter_map (op_at (type_trees c.types) c.ops) rs)
+    each [] plain form = tt
+    each (r ∷ rs) plain form = by (op_at (type_trees c.types) c.ops r) refl form (each rs (All-tail (IsPlainAt c) r rs plain))
       where
         by : (o : Option DialectOp) → op_at (type_trees c.types) c.ops r ≡ o → All (IsWellFormedOp (type_in c) h.function) (cons_option o (filter_map (op_at (type_trees c.types) c.ops) rs))
             → (All (IsWellFormedOp (type_in c) h.function) (filter_map (op_at (type_trees c.types) c.ops) rs) → Matched (IsOpIn c h) (filter (is_op c) rs) (filter_map (op_at (type_trees c.types) c.ops) rs))
@@ -144,7 +154,7 @@ ops_are c h b y at =
         by None e form rest = rest form
         by (Some o) e form rest =
             let os = filter_map (op_at (type_trees c.types) c.ops) rs in
-            (record { here = e; form = All-head (IsWellFormedOp (type_in c) h.function) o os form }, rest (All-tail (IsWellFormedOp (type_in c) h.function) o os form))
+            (record { here = e; form = All-head (IsWellFormedOp (type_in c) h.function) o os form; plain = All-head (IsPlainAt c) r rs plain }, rest (All-tail (IsWellFormedOp (type_in c) h.function) o os form))
 
 -- where an operation leads, as the context lists it
 pub successors_are : (c : ContextData) (r : OpRef) (o : DialectOp) (ss : List Successor) → op_at (type_trees c.types) c.ops r ≡ Some o → option_map (λ (x : OpData). x.successors) (slice_get c.ops r.0) ≡ Some ss → ss ≡ o.successors

@@ -1,25 +1,18 @@
 -- The operations and values of a function of the dialect, in the names of the program.
-use Rattle.std.proofs.Common.{◌≡◌, ◌<◌, ℕ, Bool, true, false, List, [], ◌∷◌, Option, Some, None, All, length, map, slice_get, get_or, refl, sym, ap, subst, ◌∙◌, arith}
+use Rattle.std.proofs.Common.{◌≡◌, ◌<◌, ℕ, Bool, true, false, List, [], ◌∷◌, Option, Some, None, All, length, map, slice_get, get_or, refl, sym, ap, subst, ◌∙◌}
 use Rattle.std.specs.Prelude.{IfSome, nat_eq, if◌then◌else◌}
 use Rattle.std.specs.List.{filter_map, find}
 use Rattle.std.specs.Option.{option_map, option_and_then}
 use Rattle.std.proofs.Common.{eqb-true}
-use Rattle.std.proofs.lemmas.Bool.{not-false}
 use Rattle.std.proofs.lemmas.Option.{same_Some, none-some, slice_get_within}
 use Rattle.std.proofs.lemmas.List.Elements.{All-nil, All-head, All-tail, All-weaker}
 use Rattle.kinds.specs.declared.fill.Fill.{Fill}
-use Rattle.kinds.specs.declared.fill.Fill.TheVariants as F
 use Rattle.kinds.specs.declared.op.Op.{Op}
-use Rattle.kinds.specs.Fill.{is_own_fill}
-use Rattle.kinds.specs.Fitting.{is_number}
-use Rattle.kinds.specs.Types.{shape}
-use Rattle.kinds.specs.Held.{IsFirstClass, width_in}
-use Rattle.kinds.proofs.HeldLaws.{int_first_class}
+use Rattle.kinds.specs.Held.{IsFirstClass}
 use Rattle.dialect_types.specs.declared.types.TypeHandle.{TypeHandle}
 use Rattle.const_attrs.specs.declared.const_attr.ConstAttr.{ConstAttr}
-use Rattle.const_attrs.specs.Trees.{IntegerAttr, FilledAttr, BytesAttr, AggregateAttr, SplatAttr, attr_data, HasTypesBelow}
-use Rattle.llvm_core.specs.declared.numbers.LLVMType.{LLVMType}
-use Rattle.dialect_types.specs.Trees.{TypeTree, VoidType, IntType, PointerType, FloatingType, RefusedType, ArrayType, VectorType, StructType, NamedType, FunctionType, type_at, type_trees}
+use Rattle.const_attrs.specs.Trees.{attr_data, HasTypesBelow}
+use Rattle.dialect_types.specs.Trees.{TypeTree, type_at, type_trees}
 use Rattle.dialect_core.specs.declared.numbers.OpRef.{OpRef}
 use Rattle.dialect_core.specs.declared.numbers.BlockRef.{BlockRef}
 use Rattle.dialect_core.specs.declared.ops.Value.{Value}
@@ -33,22 +26,21 @@ use Rattle.dialect_core.specs.declared.ops.Symbol.{Symbol}
 use Rattle.dialect_core.specs.Lists.{list_at}
 use Rattle.dialect_core.specs.ContextData.{ContextData}
 use Rattle.dialect_core.specs.Data.{DialectOp, DialectBlock, Func, Kind, ConstantOp, FilledOp, RowOp, IsTyped, HasKindTypesBelow, kind_of, op_of, op_at, block_of, block_in, func_with, func_of, func_in, type_in}
-use Rattle.dialect_core.specs.Rules.{Typing, IsIntegerOf, IsFirstClassBy, IsOfKind}
-use Rattle.meaning.specs.Terms.{Int, Filled, filled_term}
+use Rattle.dialect_core.specs.Rules.{Typing, IsFirstClassBy, IsOfKind}
 use Rattle.meaning.specs.Machine as Machine
 use Rattle.meaning.specs.Setting.{Setting}
 use Rattle.meaning.specs.Dialect as Dialect
 use Rattle.meaning.specs.Dialect.{same_value, option_type, typed_action}
 use Rattle.tracing.specs.declared.body.Slot.{Slot}
 use Rattle.tracing.specs.declared.body.Slot.TheVariants.{Result}
-use Rattle.tracing.specs.declared.body.Held.TheVariants as H
 use Rattle.tracing.specs.declared.body.Source.{Source}
 use Rattle.tracing.specs.declared.body.Action.TheVariants as A
 use Rattle.tracing.specs.declared.trace.Types.{Types}
 use Rattle.tracing.specs.Types.{Stands, AllStand}
-use Rattle.tracing.proofs.GrowLaws.{filled_held, applies}
+use Rattle.tracing.specs.Contents.{Contents}
+use Rattle.tracing.proofs.GrowLaws.{applies}
 use Rattle.tracing.specs.Renamed.{renamed, renamed_action, renamed_row}
-use Rattle.tracing.specs.Bodies.{same_slot, IsHeldAs, AreSources, IsAction}
+use Rattle.tracing.specs.Bodies.{same_slot, AreSources, IsAction}
 use Rattle.tracing.specs.DialectBodies.{slot_of, InContext, AreOpsIn, IsOpIn, IsUsed}
 use Rattle.tracing.proofs.ListLaws.{StandsBy, matched_at, mapped_twice}
 
@@ -210,28 +202,16 @@ used_result c r v is used =
 pub used_argument : (c : ContextData) (b : BlockRef) (i : ℕ) (v : Value) → v ≡ V.Argument b i → (used : IsUsed c v) → ArgumentRead c b i used.type
 used_argument c b i v is used = argument_read c b i used.type (ap (type_in c) (sym is) ∙ used.typed)
 
--- an integer is of a first class type
-integer_first_class : (t : TypeTree) (n : ℕ) → IsIntegerOf t n → IsFirstClass t
-integer_first_class t n h = subst IsFirstClass (sym h.1) (int_first_class h.0 h.2.0 (omega (arith, h.2.1)))
-
 module _ (c : ContextData) (g : Func) where
   -- the operands of a well-formed operation are values of the context, of first class types
   pub used_all : (vs : List Value) (own : Option TypeTree) (edges : List Successor) (k : Kind) → IsOfKind (type_in c) g vs own edges k → All (IsUsed c) vs
-  used_all vs own edges (ConstantOp (IntegerAttr type value)) is = subst (All (IsUsed c)) (sym is.bare) (All-nil (IsUsed c))
-  used_all vs own edges (ConstantOp (FilledAttr fill type)) is = absurd is
-  used_all vs own edges (ConstantOp (BytesAttr bytes)) is = absurd is
-  used_all vs own edges (ConstantOp (AggregateAttr elements type)) is = absurd is
-  used_all vs own edges (ConstantOp (SplatAttr element type)) is = absurd is
+  used_all vs own edges (ConstantOp value) is = subst (All (IsUsed c)) (sym is.bare) (All-nil (IsUsed c))
   used_all vs own edges (FilledOp fill) is = subst (All (IsUsed c)) (sym is.bare) (All-nil (IsUsed c))
   used_all vs own edges (RowOp op) is = All-weaker (IsFirstClassBy (type_in c)) (IsUsed c) (λ v h. record { type = h.0; typed = h.1; first_class = h.2 }) vs is.values
 
   -- and so is its result, where it has one
   pub first_class_result : (vs : List Value) (own : Option TypeTree) (edges : List Successor) (k : Kind) → IsOfKind (type_in c) g vs own edges k → IfSome own IsFirstClass
-  first_class_result vs own edges (ConstantOp (IntegerAttr type value)) is = rw is.result (integer_first_class type value is.integer)
-  first_class_result vs own edges (ConstantOp (FilledAttr fill type)) is = absurd is
-  first_class_result vs own edges (ConstantOp (BytesAttr bytes)) is = absurd is
-  first_class_result vs own edges (ConstantOp (AggregateAttr elements type)) is = absurd is
-  first_class_result vs own edges (ConstantOp (SplatAttr element type)) is = absurd is
+  first_class_result vs own edges (ConstantOp value) is = rw is.result is.value
   first_class_result vs own edges (FilledOp fill) is = rw is.result is.value
   first_class_result vs own edges (RowOp op) is = is.value
 
@@ -250,34 +230,6 @@ kind_kept c r o k at is =
 
 -- ---- constants
 
--- a type whose zero is no constant of its own is an integer type: a line for each kind
-number_type : (t : TypeTree) → is_number (shape t) ≡ true → (w : ℕ) × (t ≡ IntType w)
-number_type (IntType w) h = (w, refl)
-number_type VoidType h = absurd cc
-number_type (PointerType space) h = absurd cc
-number_type (FloatingType of) h = absurd cc
-number_type (RefusedType of) h = absurd cc
-number_type (ArrayType count t) h = absurd cc
-number_type (VectorType kind count t) h = absurd cc
-number_type (StructType layout ts) h = absurd cc
-number_type (NamedType name) h = absurd cc
-number_type (FunctionType r ps v) h = absurd cc
-
-pub not_own : (fill : Fill) (t : TypeTree) → is_own_fill fill (shape t) ≡ false → (w : ℕ) × (t ≡ IntType w)
-not_own F.Zero t h = number_type t (not-false (is_number (shape t)) h)
-not_own F.Undef t h = absurd cc
-not_own F.Poison t h = absurd cc
-
--- the zero of an integer type is the integer 0
-pub zero_held : (trees : List TypeTree) (fill : Fill) (t : TypeTree) (w : ℕ) → is_own_fill fill (shape t) ≡ false → t ≡ IntType w → IsHeldAs trees (H.Int w 0) (filled_term fill t)
-zero_held trees fill t w own int = λ later more.
-    (sym (ap (λ (b : Bool). if b then Filled fill t else Int (width_in t) 0) own ∙ ap (λ (u : TypeTree). Int (width_in u) 0) int), tt)
-
--- any other is of its type
-pub own_held : (trees : List TypeTree) (fill : Fill) (t : TypeTree) (place : LLVMType) → is_own_fill fill (shape t) ≡ true → Stands trees place t → IsHeldAs trees (H.Filled fill place) (filled_term fill t)
-own_held trees fill t place own stands =
-    subst (IsHeldAs trees (H.Filled fill place)) (sym (ap (λ (b : Bool). if b then Filled fill t else Int (width_in t) 0) own)) (filled_held trees fill place t stands)
-
 pub constant_within : (c : ContextData) (r : OpRef) (o : DialectOp) (value : ConstAttr) → IsTyped c → op_at (type_trees c.types) c.ops r ≡ Some o → option_map (λ (x : OpData). x.kind) (slice_get c.ops r.0) ≡ Some (O.Constant value) → HasTypesBelow (length c.types) (attr_data value)
 constant_within c r o value typed at is =
     let x = kept_op c r o at in
@@ -286,12 +238,12 @@ constant_within c r o value typed at is =
 
 -- ---- actions and rows
 
-pub applied_is : (trees : List TypeTree) (setting : Setting) (types : Typing) (o : DialectOp) (op : Op) (shown : Types) (os : List Source) (vs : List Value) → o.operands ≡ vs → Stands trees shown.result (option_type o.result)
-    → AllStand trees shown.operands (map (λ (v : Value). option_type (types v)) vs) → AreSources trees os (map (λ (v : Value). let o : Machine.Operand Slot = Machine.At (slot_of v) in o) vs)
-    → IsAction trees (A.Applies op shown os) (renamed_action slot_of (typed_action setting types o (RowOp op)))
-applied_is trees setting types o op shown os vs operands type operand_types sources =
-    applies trees op shown os _ _ _ type (subst (λ (ws : List Value). AllStand trees shown.operands (map (λ (v : Value). option_type (types v)) ws)) (sym operands) operand_types)
-    (subst (AreSources trees os) (ap (map (λ (v : Value). let o : Machine.Operand Slot = Machine.At (slot_of v) in o)) (sym operands) ∙ sym (mapped_twice (renamed slot_of) (λ (v : Value). let o : Machine.Operand Value = Machine.At v in o) o.operands)) sources)
+pub applied_is : (now : Contents) (setting : Setting) (types : Typing) (o : DialectOp) (op : Op) (shown : Types) (os : List Source) (vs : List Value) → o.operands ≡ vs → Stands now.types shown.result (option_type o.result)
+    → AllStand now.types shown.operands (map (λ (v : Value). option_type (types v)) vs) → AreSources now os (map (λ (v : Value). let o : Machine.Operand Slot = Machine.At (slot_of v) in o) vs)
+    → IsAction now (A.Applies op shown os) (renamed_action slot_of (typed_action setting types o (RowOp op)))
+applied_is now setting types o op shown os vs operands type operand_types sources =
+    applies now op shown os _ _ _ type (subst (λ (ws : List Value). AllStand now.types shown.operands (map (λ (v : Value). option_type (types v)) ws)) (sym operands) operand_types)
+    (subst (AreSources now os) (ap (map (λ (v : Value). let o : Machine.Operand Slot = Machine.At (slot_of v) in o)) (sym operands) ∙ sym (mapped_twice (renamed slot_of) (λ (v : Value). let o : Machine.Operand Value = Machine.At v in o) o.operands)) sources)
 
 -- what an operation of a known kind does
 pub action_of_kind : (setting : Setting) (c : ContextData) (r : OpRef) (o : DialectOp) (k : OpKind) (kind : Kind) → op_at (type_trees c.types) c.ops r ≡ Some o → option_map (λ (x : OpData). x.kind) (slice_get c.ops r.0) ≡ Some k → kind_of (type_trees c.types) k ≡ Some kind

@@ -6,7 +6,6 @@ use Rattle.std.proofs.lemmas.List.{map-append}
 use Rattle.std.proofs.lemmas.List.Elements.{All-nil, All-cons, All-push}
 use Rattle.std.proofs.lemmas.Option.{same_Some, slice_get_within, get_or_from_slice_get}
 use Rattle.support.specs.NumberMaps.{value_at}
-use Rattle.kinds.specs.declared.fill.Fill.{Fill}
 use Rattle.kinds.specs.declared.op.Op.{Op}
 use Rattle.llvm_core.specs.declared.numbers.LLVMType.{LLVMType}
 use Rattle.llvm_core.specs.declared.types.LLVMTypeKind.{LLVMTypeKind}
@@ -19,18 +18,18 @@ use Rattle.meaning.specs.Machine as M
 use Rattle.tracing.specs.declared.trace.Types.{Types}
 use Rattle.tracing.specs.declared.type_places.TypePlaces.{TypePlaces}
 use Rattle.tracing.specs.declared.body.Slot.{Slot}
-use Rattle.tracing.specs.declared.body.Held.{Held}
-use Rattle.tracing.specs.declared.body.Held.TheVariants as H
 use Rattle.tracing.specs.declared.body.Source.{Source}
 use Rattle.tracing.specs.declared.body.Source.TheVariants as S
 use Rattle.tracing.specs.declared.body.Action.{Action}
 use Rattle.tracing.specs.declared.body.Action.TheVariants as A
 use Rattle.tracing.specs.declared.body.Row.{Row}
 use Rattle.tracing.specs.declared.body.Block.{Block}
-use Rattle.tracing.specs.Types.{Stands, AllStand, AreBelow, KeepsTypes, Lasts}
+use Rattle.tracing.specs.Types.{Stands, AllStand, AreBelow, KeepsTypes}
+use Rattle.tracing.specs.Table.{IsTermAt, term_at}
+use Rattle.tracing.specs.Contents.{Contents, KeepsContents, Lasts}
 use Rattle.tracing.specs.TypePlaces.{trees_in, ArePlacesOf, IsGrown}
 use Rattle.tracing.proofs.ListLaws.{listed_more}
-use Rattle.tracing.specs.Bodies.{source_of, action_of, row_of, block_of, IsTypedSource, IsTypedRow, IsTypedBlock, IsHeldAs, IsSource, AreSources, IsAction, AreRows, IsBlock, AreBlocks}
+use Rattle.tracing.specs.Bodies.{source_of, action_of, row_of, block_of, IsKnownSource, IsKnownRow, IsKnownBlock, IsSource, AreSources, IsAction, AreRows, IsBlock, AreBlocks}
 
 -- ---- types that stand
 
@@ -103,48 +102,56 @@ then_grown source a b c first second = record { kept = λ k t at. second.kept k 
 
 -- ---- what lasts
 
-pub lasts : (P : List TypeTree → Type 0) (old new : List TypeTree) → KeepsTypes old new → Lasts old P → Lasts new P
-lasts P old new keeps h = λ later more. h later (λ k t at. more k t (keeps k t at))
+pub same_kept : (now : Contents) → KeepsContents now now
+same_kept now = ((λ k t at. at), (λ k t at. at))
 
--- a constant of a type that stands in the table
-pub filled_held : (trees : List TypeTree) (fill : Fill) (t : LLVMType) (u : TypeTree) → Stands trees t u → IsHeldAs trees (H.Filled fill t) (T.Filled fill u)
-filled_held trees fill t u stands = λ later more.
-    let here = more t.0 u stands in
-    (ap (T.Filled fill) (stands_at later t u here), slice_get_within later t.0 u here)
+pub then_kept : (a b c : Contents) → KeepsContents a b → KeepsContents b c → KeepsContents a c
+then_kept a b c first second = ((λ k t at. second.0 k t (first.0 k t at)), (λ k t at. second.1 k t (first.1 k t at)))
+
+pub lasts : (P : Contents → Type 0) (old new : Contents) → KeepsContents old new → Lasts old P → Lasts new P
+lasts P old new keeps h = λ later more. h later (then_kept old new later keeps more)
+
+-- the term that stands at a place is what is looked up
+pub term_stands : (ts : List Term) (k : ℕ) (t : Term) → IsTermAt ts k t → term_at ts k ≡ t
+term_stands ts k t h = get_or_from_slice_get ts k t T.Unset h
 
 -- a constant as an operand, and what holds it
-pub held_source : (trees : List TypeTree) (held : Held) (t : Term) → IsHeldAs trees held t → IsSource trees (S.Fixed held) (M.Fixed t)
-held_source trees held t is = λ later more. let h = is later more in (ap (λ (u : Term). let o : M.Operand Slot = M.Fixed u in o) h.0, h.1)
+pub held_source : (now : Contents) (k : ℕ) (t : Term) → IsTermAt now.terms k t → IsSource now (S.Fixed k) (M.Fixed t)
+held_source now k t is = λ later more.
+    let here = more.1 k t is in
+    (ap (λ (u : Term). let o : M.Operand Slot = M.Fixed u in o) (term_stands later.terms k t here), slice_get_within later.terms k t here)
 
-pub held_action : (trees : List TypeTree) (held : Held) (t : Term) → IsHeldAs trees held t → IsAction trees (A.Holds held) (M.Holds t)
-held_action trees held t is = λ later more. let h = is later more in (ap (λ (u : Term). let a : M.Action Slot = M.Holds u in a) h.0, h.1)
+pub held_action : (now : Contents) (k : ℕ) (t : Term) → IsTermAt now.terms k t → IsAction now (A.Holds k) (M.Holds t)
+held_action now k t is = λ later more.
+    let here = more.1 k t is in
+    (ap (λ (u : Term). let a : M.Action Slot = M.Holds u in a) (term_stands later.terms k t here), slice_get_within later.terms k t here)
 
-pub no_sources : (trees : List TypeTree) → AreSources trees [] []
-no_sources trees = λ later more. (refl, All-nil (IsTypedSource (length later)))
+pub no_sources : (now : Contents) → AreSources now [] []
+no_sources now = λ later more. (refl, All-nil (IsKnownSource later))
 
 -- one operand more
-pub sources_push : (old new : List TypeTree) (ss : List Source) (xs : List (M.Operand Slot)) (s : Source) (x : M.Operand Slot) → KeepsTypes old new → AreSources old ss xs → IsSource new s x → AreSources new (ss ++ s ∷ []) (xs ++ x ∷ [])
+pub sources_push : (old new : Contents) (ss : List Source) (xs : List (M.Operand Slot)) (s : Source) (x : M.Operand Slot) → KeepsContents old new → AreSources old ss xs → IsSource new s x → AreSources new (ss ++ s ∷ []) (xs ++ x ∷ [])
 sources_push old new ss xs s x keeps before here = λ later more.
     let b = lasts _ old new keeps before later more in
     let h = here later more in (
-      map-append (source_of later) ss (s ∷ []) ∙ ap (λ l. l ++ source_of later s ∷ []) b.0 ∙ ap (λ y. xs ++ y ∷ []) h.0,
-      All-push (IsTypedSource (length later)) ss s b.1 h.1,
+      map-append (source_of later.terms) ss (s ∷ []) ∙ ap (λ l. l ++ source_of later.terms s ∷ []) b.0 ∙ ap (λ y. xs ++ y ∷ []) h.0,
+      All-push (IsKnownSource later) ss s b.1 h.1,
     )
 
 applies_same : (o : Op) (ty ty' : TypeTree) (tys tys' : List TypeTree) (os os' : List (M.Operand Slot)) → ty ≡ ty' → tys ≡ tys' → os ≡ os' → ◌≡◌ {A = M.Action Slot} (M.Applies o ty tys os) (M.Applies o ty' tys' os')
 applies_same o ty ty' tys tys' os os' a b c = cc
 
 -- an action on operands, whose types stand in the table
-pub applies : (trees : List TypeTree) (o : Op) (types : Types) (operands : List Source) (ty : TypeTree) (tys : List TypeTree) (os : List (M.Operand Slot)) → Stands trees types.result ty → AllStand trees types.operands tys → AreSources trees operands os
-    → IsAction trees (A.Applies o types operands) (M.Applies o ty tys os)
-applies trees o types operands ty tys os result rest sources = λ later keeps.
-    let here = keeps types.result.0 ty result in
-    let all = all_stay trees later keeps types.operands tys rest in
+pub applies : (now : Contents) (o : Op) (types : Types) (operands : List Source) (ty : TypeTree) (tys : List TypeTree) (os : List (M.Operand Slot)) → Stands now.types types.result ty → AllStand now.types types.operands tys → AreSources now operands os
+    → IsAction now (A.Applies o types operands) (M.Applies o ty tys os)
+applies now o types operands ty tys os result rest sources = λ later keeps.
+    let here = keeps.0 types.result.0 ty result in
+    let all = all_stay now.types later.types keeps.0 types.operands tys rest in
     let given = sources later keeps in
-    (applies_same o _ _ _ _ _ _ (stands_at later types.result ty here) (all_at later types.operands tys all) given.0, ((slice_get_within later types.result.0 ty here, all_types_below later types.operands tys all), given.1))
+    (applies_same o _ _ _ _ _ _ (stands_at later.types types.result ty here) (all_at later.types types.operands tys all) given.0, ((slice_get_within later.types types.result.0 ty here, all_types_below later.types types.operands tys all), given.1))
 
 -- one row more
-pub rows_push : (old new : List TypeTree) (rs : List Row) (xs : List (M.Row Slot)) (a : Action) (x : M.Action Slot) (v : Slot) → KeepsTypes old new → AreRows old rs xs → IsAction new a x
+pub rows_push : (old new : Contents) (rs : List Row) (xs : List (M.Row Slot)) (a : Action) (x : M.Action Slot) (v : Slot) → KeepsContents old new → AreRows old rs xs → IsAction new a x
     → AreRows new (rs ++ record { action = a; result = v } ∷ []) (xs ++ record { action = x; result = v } ∷ [])
 rows_push old new rs xs a x v keeps before here = λ later more.
     let b = lasts _ old new keeps before later more in
@@ -152,21 +159,21 @@ rows_push old new rs xs a x v keeps before here = λ later more.
     let r : Row = record { action = a; result = v } in
     let y : M.Action Slot → M.Row Slot = λ (z : M.Action Slot). record { action = z; result = v } in (
       map-append (row_of later) rs (r ∷ []) ∙ ap (λ l. l ++ y (action_of later a) ∷ []) b.0 ∙ ap (λ z. xs ++ y z ∷ []) h.0,
-      All-push (IsTypedRow (length later)) rs r b.1 h.1,
+      All-push (IsKnownRow later) rs r b.1 h.1,
     )
 
-pub no_rows : (trees : List TypeTree) → AreRows trees [] []
-no_rows trees = λ later more. (refl, All-nil (IsTypedRow (length later)))
+pub no_rows : (now : Contents) → AreRows now [] []
+no_rows now = λ later more. (refl, All-nil (IsKnownRow later))
 
 -- one block more
-pub blocks_push : (old new : List TypeTree) (params : List (List Slot)) (bs : List Block) (xs : List (M.Block Slot)) (b : Block) (x : M.Block Slot) → KeepsTypes old new → AreBlocks old params bs xs → IsBlock new params b x
+pub blocks_push : (old new : Contents) (params : List (List Slot)) (bs : List Block) (xs : List (M.Block Slot)) (b : Block) (x : M.Block Slot) → KeepsContents old new → AreBlocks old params bs xs → IsBlock new params b x
     → AreBlocks new params (bs ++ b ∷ []) (xs ++ x ∷ [])
 blocks_push old new params bs xs b x keeps before here = λ later more.
     let p = lasts _ old new keeps before later more in
     let h = here later more in (
       map-append (block_of later params) bs (b ∷ []) ∙ ap (λ l. l ++ block_of later params b ∷ []) p.0 ∙ ap (λ z. xs ++ z ∷ []) h.0,
-      All-push (IsTypedBlock (length later)) bs b p.1 h.1,
+      All-push (IsKnownBlock later) bs b p.1 h.1,
     )
 
-pub no_blocks : (trees : List TypeTree) (params : List (List Slot)) → AreBlocks trees params [] []
-no_blocks trees params = λ later more. (refl, All-nil (IsTypedBlock (length later)))
+pub no_blocks : (now : Contents) (params : List (List Slot)) → AreBlocks now params [] []
+no_blocks now params = λ later more. (refl, All-nil (IsKnownBlock later))

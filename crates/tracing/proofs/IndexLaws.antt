@@ -14,16 +14,16 @@ use Rattle.indexmap.specs.IndexMap.{get}
 use Rattle.tracing.specs.declared.llvm_index.Phi.{Phi}
 use Rattle.tracing.specs.declared.body.Slot.TheVariants.{Result}
 use Rattle.tracing.specs.declared.body.Source.{Source}
-use Rattle.tracing.specs.Types.{KeepsTypes, Lasts}
+use Rattle.tracing.specs.Contents.{Contents, KeepsContents, Lasts}
 use Rattle.tracing.specs.Bodies.{IsSource, HandsOver, IsGiven}
-use Rattle.tracing.proofs.GrowLaws.{lasts}
+use Rattle.tracing.proofs.GrowLaws.{lasts, same_kept}
 use Rattle.tracing.proofs.LlvmLaws.{kept_at}
 use Rattle.llvm_core.specs.declared.code.BlockData.{BlockData}
 use Rattle.llvm_core.specs.declared.code.FunctionData.{FunctionData}
 use Rattle.llvm_core.specs.declared.code.InstData.{InstData}
 use Rattle.llvm_core.specs.Module.{Module}
 use Rattle.llvm_core.specs.Data as D
-use Rattle.llvm_core.specs.Data.{TypeTree, Placed, Block, trees_of, entry_of, instruction_of, phi_entries, placed_at, block_at, block_of}
+use Rattle.llvm_core.specs.Data.{Placed, Block, trees_of, entry_of, instruction_of, phi_entries, placed_at, block_at, block_of}
 use Rattle.llvm_core.specs.Checked.{home}
 use Rattle.llvm_core.specs.Form.{is_phi}
 use Rattle.llvm_core.proofs.DataLemmas.{blocks_there, insts_there, slice_get-filter_map_all, length-filter_map_all}
@@ -78,19 +78,19 @@ first_none None = refl
 first_none (Some x) = refl
 
 -- an entry changes nothing where there is an earlier one for its block
-pub still_given : (trees : List TypeTree) (o : Option Source) (x : Option (M.Operand Slot)) (here : Bool) (y : M.Operand Slot) → IsGiven trees o x → (here ≡ true → is_some o ≡ true) → IsGiven trees o (first_of x (if here then Some y else None))
-still_given trees o x false y given there = subst (IsGiven trees o) (sym (first_none x)) given
-still_given trees None x true y given there = absurd (cc (there refl))
-still_given trees (Some s) x true y given there =
-    subst (λ (z : Option (M.Operand Slot)). IsGiven trees (Some s) z → IsGiven trees (Some s) (first_of z (Some y))) (given trees (λ k t at. at)).0 (λ g. g) given
+pub still_given : (now : Contents) (o : Option Source) (x : Option (M.Operand Slot)) (here : Bool) (y : M.Operand Slot) → IsGiven now o x → (here ≡ true → is_some o ≡ true) → IsGiven now o (first_of x (if here then Some y else None))
+still_given now o x false y given there = subst (IsGiven now o) (sym (first_none x)) given
+still_given now None x true y given there = absurd (cc (there refl))
+still_given now (Some s) x true y given there =
+    subst (λ (z : Option (M.Operand Slot)). IsGiven now (Some s) z → IsGiven now (Some s) (first_of z (Some y))) (given now (same_kept now)).0 (λ g. g) given
 
 -- and is what the block gets where there is none
-pub newly_given : (old new : List TypeTree) (s : Source) (o : Option Source) (x : Option (M.Operand Slot)) (here : Bool) (y : M.Operand Slot) → KeepsTypes old new → IsGiven old o x → (here ≡ true → is_some o ≡ false) → IsSource new s y
+pub newly_given : (old new : Contents) (s : Source) (o : Option Source) (x : Option (M.Operand Slot)) (here : Bool) (y : M.Operand Slot) → KeepsContents old new → IsGiven old o x → (here ≡ true → is_some o ≡ false) → IsSource new s y
     → IsGiven new (cond here (Some s) o) (first_of x (if here then Some y else None))
-newly_given old new s o x false y keeps given apart is = subst (IsGiven new o) (sym (first_none x)) (lasts (λ (ts : List TypeTree). HandsOver ts o x) old new keeps given)
+newly_given old new s o x false y keeps given apart is = subst (IsGiven new o) (sym (first_none x)) (lasts (λ (d : Contents). HandsOver d o x) old new keeps given)
 newly_given old new s (Some t) x true y keeps given apart is = absurd (cc (apart refl))
 newly_given old new s None x true y keeps given apart is =
-    subst (λ (z : Option (M.Operand Slot)). IsGiven new (Some s) (first_of z (Some y))) (given old (λ k t at. at)).0 (λ later more. let h = is later more in (ap Some h.0, h.1))
+    subst (λ (z : Option (M.Operand Slot)). IsGiven new (Some s) (first_of z (Some y))) (given old (same_kept old)).0 (λ later more. let h = is later more in (ap Some h.0, h.1))
 
 -- ---- blocks and their instructions
 
@@ -152,30 +152,30 @@ some_entry = record { value = V.Const (record { 0 = 0 }); block = record { 0 = 0
 -- ---- phis
 
 module _ (m : Module) where
-  pub no_more : (trees : List TypeTree) (xs : List Phi) (ps : List Placed) (p : Placed) → is_phi p ≡ false → ArePhis m trees xs ps → ArePhis m trees xs (ps ++ filter is_phi (p ∷ []))
-  no_more trees xs ps p none h = rw none (subst (ArePhis m trees xs) (sym (append-nil ps)) h)
+  pub no_more : (now : Contents) (xs : List Phi) (ps : List Placed) (p : Placed) → is_phi p ≡ false → ArePhis m now xs ps → ArePhis m now xs (ps ++ filter is_phi (p ∷ []))
+  no_more now xs ps p none h = rw none (subst (ArePhis m now xs) (sym (append-nil ps)) h)
 
-  pub one_more : (old new : List TypeTree) (xs : List Phi) (ps : List Placed) (x : Phi) (p : Placed) → is_phi p ≡ true → KeepsTypes old new → Lasts new (λ (ts : List TypeTree). IsPhiOf m ts x p) → ArePhis m old xs ps → ArePhis m new (xs ++ x ∷ []) (ps ++ filter is_phi (p ∷ []))
+  pub one_more : (old new : Contents) (xs : List Phi) (ps : List Placed) (x : Phi) (p : Placed) → is_phi p ≡ true → KeepsContents old new → Lasts new (λ (d : Contents). IsPhiOf m d x p) → ArePhis m old xs ps → ArePhis m new (xs ++ x ∷ []) (ps ++ filter is_phi (p ∷ []))
   one_more old new xs ps x p some keeps is h =
-      rw some (λ later more. matched_push (IsPhiOf m later) xs ps x p (lasts (λ (ts : List TypeTree). Matched (IsPhiOf m ts) xs ps) old new keeps h later more) (is later more))
+      rw some (λ later more. matched_push (IsPhiOf m later) xs ps x p (lasts (λ (d : Contents). Matched (IsPhiOf m d) xs ps) old new keeps h later more) (is later more))
 
-  pub is_phi_of : (trees : List TypeTree) (h : InChecked m) (b : ℕ) (i : LLVMInstRef) (p : Placed) (t : LLVMType) (es : List PhiEntry) (x : Phi) → IsPlacedIn m h b i p → p.instruction ≡ instruction_of (trees_of m) (I.Phi t es)
-      → x.slot ≡ Result i.0 → ((from : ℕ) → IsGiven trees (get nat_eq x.incoming from) (taken_of m from es)) → Lasts trees (λ (ts : List TypeTree). IsPhiOf m ts x p)
-  is_phi_of trees h b i p t es x at e slot takes = λ later more. record {
+  pub is_phi_of : (now : Contents) (h : InChecked m) (b : ℕ) (i : LLVMInstRef) (p : Placed) (t : LLVMType) (es : List PhiEntry) (x : Phi) → IsPlacedIn m h b i p → p.instruction ≡ instruction_of (trees_of m) (I.Phi t es)
+      → x.slot ≡ Result i.0 → ((from : ℕ) → IsGiven now (get nat_eq x.incoming from) (taken_of m from es)) → Lasts now (λ (d : Contents). IsPhiOf m d x p)
+  is_phi_of now h b i p t es x at e slot takes = λ later more. record {
     entries = map (entry_of (trees_of m)) es;
     are = ap phi_entries e;
     slot = slot ∙ ap Result (sym (ap (λ (q : Placed). q.number) (kept_at m h b i p at).is));
     incoming = λ from. takes from later more;
   }
 
-  pub no_phis : (trees : List TypeTree) → ArePhis m trees [] []
-  no_phis trees = λ later more. tt
+  pub no_phis : (now : Contents) → ArePhis m now [] []
+  no_phis now = λ later more. tt
 
   -- the phis of one block more
-  pub block_phis_push : (old new : List TypeTree) (all : List (List Phi)) (ys : List Block) (xs : List Phi) (y : Block) → KeepsTypes old new → Lasts old (λ (ts : List TypeTree). AreBlockPhis m ts all ys) → ArePhis m new xs (filter is_phi y.instructions)
-      → Lasts new (λ (ts : List TypeTree). AreBlockPhis m ts (all ++ xs ∷ []) (ys ++ y ∷ []))
+  pub block_phis_push : (old new : Contents) (all : List (List Phi)) (ys : List Block) (xs : List Phi) (y : Block) → KeepsContents old new → Lasts old (λ (d : Contents). AreBlockPhis m d all ys) → ArePhis m new xs (filter is_phi y.instructions)
+      → Lasts new (λ (d : Contents). AreBlockPhis m d (all ++ xs ∷ []) (ys ++ y ∷ []))
   block_phis_push old new all ys xs y keeps before here = λ later more.
-      matched_push (λ (xs : List Phi) (y : Block). ArePhisOf m later xs y.instructions) all ys xs y (lasts (λ (ts : List TypeTree). AreBlockPhis m ts all ys) old new keeps before later more) (here later more)
+      matched_push (λ (xs : List Phi) (y : Block). ArePhisOf m later xs y.instructions) all ys xs y (lasts (λ (d : Contents). AreBlockPhis m d all ys) old new keeps before later more) (here later more)
 
 -- ---- the block at a place of a function's list
 

@@ -1,13 +1,6 @@
 -- The operands and types of instructions of LLVM, in the names of the program.
-use Rattle.std.proofs.Common.{◌≡◌, ℕ, Bool, true, if◌then◌else◌, List, Option, Some, None, map, slice_get, refl, sym, ap, subst, ◌∙◌, All}
-use Rattle.kinds.specs.declared.fill.Fill.{Fill}
-use Rattle.kinds.specs.Fill.{is_own_fill}
-use Rattle.kinds.specs.Types.{shape}
-use Rattle.kinds.specs.Held.{width_in}
+use Rattle.std.proofs.Common.{◌≡◌, ℕ, List, Option, Some, None, map, slice_get, refl, sym, ap, subst, ◌∙◌, All}
 use Rattle.llvm_core.specs.declared.numbers.LLVMType.{LLVMType}
-use Rattle.llvm_core.specs.declared.numbers.LLVMConst.{LLVMConst}
-use Rattle.llvm_core.specs.declared.consts.LLVMConstKind.{LLVMConstKind}
-use Rattle.llvm_core.specs.declared.consts.LLVMConstKind.TheVariants as C
 use Rattle.llvm_core.specs.declared.numbers.LLVMInstRef.{LLVMInstRef}
 use Rattle.llvm_core.specs.declared.code.LLVMValue.{LLVMValue}
 use Rattle.llvm_core.specs.declared.code.LLVMValue.TheVariants as V
@@ -17,17 +10,13 @@ use Rattle.llvm_core.specs.declared.code.Row.{Row}
 use Rattle.llvm_core.specs.declared.code.PhiEntry.{PhiEntry}
 use Rattle.llvm_core.specs.Module.{Module}
 use Rattle.llvm_core.specs.declared.code.InstData.{InstData}
-use Rattle.llvm_core.specs.Consts.{IsConstIn}
 use Rattle.llvm_core.specs.Parts.{value_type, is_phi}
-use Rattle.llvm_core.specs.Sound.{IsModule}
 use Rattle.llvm_core.specs.Data as D
-use Rattle.llvm_core.specs.Data.{Placed, Instruction, placed_of, row_of, instruction_of, TypeTree, IntType, type_at, const_at, const_tree, trees_of, operand_of, operand_type, phi_entries}
+use Rattle.llvm_core.specs.Data.{Placed, Instruction, placed_of, row_of, instruction_of, TypeTree, type_at, trees_of, operand_of, operand_type, phi_entries}
 use Rattle.std.specs.Option.{is_some, option_map}
 use Rattle.std.proofs.lemmas.Option.{none-some, same_Some}
 use Rattle.llvm_core.specs.Form as F
 use Rattle.llvm_core.specs.Edges.{targets as leads_to}
-use Rattle.llvm_core.proofs.DataLemmas.{int_const_of, filled_const_of, const_tree_of}
-use Rattle.llvm_core.proofs.WholeTypes.{shape_there}
 use Rattle.llvm_core.proofs.FormEdges.{same_targets}
 use Rattle.llvm_core.proofs.FormPlaces.{same_kind_phi}
 use Rattle.llvm_core.proofs.FormValues.{value_typed}
@@ -36,15 +25,14 @@ use Rattle.llvm_core.proofs.CheckedForm.{meets}
 use Rattle.tracing.proofs.CheckedLaws.{row_used}
 use Rattle.meaning.specs.Machine as Machine
 use Rattle.meaning.specs.Machine.{Operand, Applies}
-use Rattle.meaning.specs.Terms.{Term, Unset, Int, Filled}
-use Rattle.meaning.specs.Llvm.{const_term, operand, action, row}
+use Rattle.meaning.specs.Llvm.{operand, action, row}
 use Rattle.tracing.specs.Renamed.{renamed, renamed_action, renamed_row}
 use Rattle.tracing.specs.Types.{Stands, AllStand}
-use Rattle.tracing.specs.Bodies.{IsHeldAs, AreSources, IsAction}
-use Rattle.tracing.proofs.GrowLaws.{filled_held, applies}
+use Rattle.tracing.specs.Contents.{Contents}
+use Rattle.tracing.specs.Bodies.{AreSources, IsAction}
+use Rattle.tracing.proofs.GrowLaws.{applies}
 use Rattle.tracing.specs.declared.body.Slot.TheVariants.{Result}
 use Rattle.tracing.specs.declared.trace.Types.{Types}
-use Rattle.tracing.specs.declared.body.Held.TheVariants as H
 use Rattle.tracing.specs.declared.body.Source.{Source}
 use Rattle.tracing.specs.declared.body.Action.TheVariants as A
 use Rattle.tracing.proofs.ListLaws.{mapped_twice}
@@ -60,27 +48,6 @@ used_tree m h v t used is =
 
 abbrev pub some_value : LLVMValue
 some_value = V.Const (record { 0 = 0 })
-
--- ---- constants
-
--- what is held of a constant, by its kind: a line for each
-module _ (m : Module) (sound : IsModule m) (c : LLVMConst) where
-  abbrev term : Term
-  term = const_term (setting_in m) (const_at (trees_of m).consts c)
-
-  pub int_held : (trees : List TypeTree) (t : LLVMType) (width value : ℕ) → slice_get m.consts c.0 ≡ Some (C.Int t value) → type_at (trees_of m).types t ≡ IntType width → IsHeldAs trees (H.Int width value) term
-  int_held trees t width value at int = λ later more. (sym (ap (const_term (setting_in m)) (int_const_of m c t value at) ∙ ap (λ (u : TypeTree). Int (width_in u) value) int), tt)
-
-  -- a module keeps no zero of an integer type beside the integer 0
-  pub filled_as : (trees : List TypeTree) (fill : Fill) (t place : LLVMType) → slice_get m.consts c.0 ≡ Some (C.Filled fill t) → IsConstIn m (C.Filled fill t) → Stands trees place (type_at (trees_of m).types t) → IsHeldAs trees (H.Filled fill place) term
-  filled_as trees fill t place at over stands =
-      let u = type_at (trees_of m).types t in
-      let own : is_own_fill fill (shape u) ≡ true = ap (is_own_fill fill) (sym (shape_there m sound t over.0)) ∙ over.1 in
-      let is : term ≡ Filled fill u = ap (const_term (setting_in m)) (filled_const_of m c fill t at) ∙ ap (λ (b : Bool). if b then Filled fill u else Int (width_in u) 0) own in
-      subst (IsHeldAs trees (H.Filled fill place)) (sym is) (filled_held trees fill place u stands)
-
-  pub unset_held : (trees : List TypeTree) (k : LLVMConstKind) → slice_get m.consts c.0 ≡ Some k → const_term (setting_in m) (const_tree (trees_of m).types (trees_of m).consts k) ≡ Unset → IsHeldAs trees H.Unset term
-  unset_held trees k at is = λ later more. (sym (ap (const_term (setting_in m)) (const_tree_of m c k at (sound.consts_below c.0 k at)) ∙ is), tt)
 
 -- ---- an instruction that is no phi
 
@@ -128,15 +95,15 @@ module _ (m : Module) (h : InChecked m) where
   used_all b i p r at = let k = kept_at m h b i p at.placed in row_used m h k.kept.block.0 k.kept.ty r (rules_of b i p r at k)
 
   -- what an instruction of that row does
-  pub action_is : (trees : List TypeTree) (type : TypeTree) (r : Row) (types : Types) (os : List Source) → Stands trees types.result type
-      → AllStand trees types.operands (map (λ (v : LLVMValue). operand_type (data_in m h) (operand_of (trees_of m) v)) r.operands) → AreSources trees os (map (operand_in m) r.operands)
-      → IsAction trees (A.Applies r.op types os) (renamed_action slot_of (action (setting_in m) (data_in m h) type (row_of (trees_of m) r)))
-  action_is trees type r types os result operands sources =
+  pub action_is : (now : Contents) (type : TypeTree) (r : Row) (types : Types) (os : List Source) → Stands now.types types.result type
+      → AllStand now.types types.operands (map (λ (v : LLVMValue). operand_type (data_in m h) (operand_of (trees_of m) v)) r.operands) → AreSources now os (map (operand_in m) r.operands)
+      → IsAction now (A.Applies r.op types os) (renamed_action slot_of (action (setting_in m) (data_in m h) type (row_of (trees_of m) r)))
+  action_is now type r types os result operands sources =
       let t = trees_of m in
-      let same_types = subst (AllStand trees types.operands) (sym (mapped_twice (operand_type (data_in m h)) (operand_of t) r.operands)) operands in
+      let same_types = subst (AllStand now.types types.operands) (sym (mapped_twice (operand_type (data_in m h)) (operand_of t) r.operands)) operands in
       let renamed_twice = ap (map (renamed slot_of)) (mapped_twice (operand (setting_in m)) (operand_of t) r.operands) ∙ mapped_twice (renamed slot_of) (λ (v : LLVMValue). operand (setting_in m) (operand_of t v)) r.operands in
-      let same_sources = subst (AreSources trees os) (sym renamed_twice) sources in
-      applies trees r.op types os type _ _ result same_types same_sources
+      let same_sources = subst (AreSources now os) (sym renamed_twice) sources in
+      applies now r.op types os type _ _ result same_types same_sources
 
   -- the row of the data of an instruction
   row_shown : (p : Placed) (inst : LLVMInst) → p.instruction ≡ instruction_of (trees_of m) inst → row_in m h p ≡ option_map (renamed_row slot_of) (row (setting_in m) (data_in m h) p (instruction_of (trees_of m) inst))

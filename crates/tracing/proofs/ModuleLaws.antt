@@ -1,5 +1,5 @@
 -- A function of a module's data is one of its context.
-use Rattle.std.proofs.Common.{◌≡◌, ℕ, zero, suc, List, [], ◌∷◌, Option, Some, None, slice_get, unwrap_or, sym, ap, ◌∙◌}
+use Rattle.std.proofs.Common.{◌≡◌, ℕ, zero, suc, List, [], ◌∷◌, Option, Some, None, slice_get, unwrap_or, All, sym, ap, subst, ◌∙◌}
 use Rattle.std.specs.List.{filter_map, cons_option}
 use Rattle.std.specs.Option.{option_map, option_and_then}
 use Rattle.std.proofs.lemmas.Option.{none-some, same_Some}
@@ -8,7 +8,7 @@ use Rattle.dialect_core.specs.declared.numbers.OpRef.{OpRef}
 use Rattle.dialect_core.specs.declared.ops.OpData.{OpData}
 use Rattle.dialect_core.specs.declared.ops.Symbol.{Symbol}
 use Rattle.dialect_core.specs.ContextData.{ContextData}
-use Rattle.dialect_core.specs.WellFormed.{IsWellFormed, IsWellFormedFunc}
+use Rattle.dialect_core.specs.WellFormed.{IsPlainAt, IsWellFormed, IsWellFormedFunc}
 use Rattle.dialect_core.specs.Data.{DialectBlock, Func, IsTyped, block_in, func_of, func_in, held, data_of, type_in}
 use Rattle.dialect_core.proofs.FuncLemmas.{made_of}
 use Rattle.dialect_core.proofs.LineLemmas.{all_at}
@@ -34,6 +34,13 @@ function_in c m op place g here number =
     let at : from.0.0 ≡ op.0 = sym (func_number (type_trees c.types) c from.0 g from.2) ∙ number in
     ap (λ (n : ℕ). func_in (type_trees c.types) c (record { 0 = n })) (sym at) ∙ from.2
 
+-- what it holds is plain
+pub plain_in : (c : ContextData) (m : ℕ) (op : OpRef) → IsWellFormed c m → HasBody c m op → All (IsPlainAt c) (held c op.0)
+plain_in c m op well h =
+    let from = made_of (func_in (type_trees c.types) c) (held c m) h.place h.function h.here in
+    let at : from.0.0 ≡ op.0 = sym (func_number (type_trees c.types) c from.0 h.function from.2) ∙ h.number in
+    subst (λ (n : ℕ). All (IsPlainAt c) (held c n)) at (all_at (λ (o : OpRef). All (IsPlainAt c) (held c o.0)) (held c m) well.plain from.1.0 from.0 from.1.1)
+
 -- a function with a body of a well-formed module is well-formed in the context
 abbrev pub in_context : (c : ContextData) (m : ℕ) (op : OpRef) → IsTyped c → IsWellFormed c m → HasBody c m op → InContext c
 in_context c m op typed well h = record {
@@ -42,6 +49,7 @@ in_context c m op typed well h = record {
   typed = typed;
   is = function_in c m op h.place h.function h.here h.number;
   form = all_at (IsWellFormedFunc (type_in c)) (data_of c m).functions well.functions h.place h.function h.here;
+  plain = plain_in c m op well h;
   body = h.body;
 }
 

@@ -29,6 +29,7 @@ use Rattle.llvm_core.specs.Data.{TypeTree, VoidType, type_at}
 use Rattle.tracing.specs.Types.{HasTypesBelow, AllStand}
 use Rattle.tracing.specs.Table.{terms, term_at, AreTyped}
 use Rattle.tracing.specs.Bodies.{same_slot, source_of, action_of, row_of}
+use Rattle.tracing.specs.Contents.{Contents}
 use Rattle.tracing.specs.Runs.{is_built, item_of, HasPlacesBelow, Names, AllNamed, Reads, ShowsItem, IsAt, Keeps}
 use Rattle.tracing.proofs.TableLaws.{kept_term, named_below}
 use Rattle.tracing.proofs.GrowLaws.{stands_at, all_at, all_types_below}
@@ -87,43 +88,9 @@ module _ (trees : List TypeTree) where
   items_kept old new keeps [] (i ∷ is) h = elim h [ ]
   items_kept old new keeps (x ∷ xs) [] h = elim h [ ]
 
-  -- a run of which the table alone has grown
-  pub grown_at : (r r' : Run) → r'.env ≡ r.env → r'.items ≡ r.items → r'.block ≡ r.block → r'.count ≡ r.count → Keeps trees r.table r'.table → AreTyped (length trees) r'.table → (s : State Slot) → IsAt trees r s → IsAt trees r' s
-  grown_at r r' env items block count keeps typed s h = record {
-    block = block ∙ h.block;
-    count = count ∙ h.count;
-    typed = typed;
-    env = λ v. rw env (read_kept r.table r'.table keeps (get same_slot r.env v) (s.env v) (h.env v));
-    shown = rw items (items_kept r.table r'.table keeps r.items.items s.shown h.shown);
-  }
-
-  -- ---- a value is set
-
   read_set : (ns : List TermNode) (b : Bool) (k : ℕ) (o : Option ℕ) (t u : Term) → Names trees ns k t → Reads trees ns o u → Reads trees ns (cond b (Some k) o) (if b then t else u)
   read_set ns true k o t u named h = named
   read_set ns false k o t u named h = h
-
-  pub set_at : (r r' : Run) (v : Slot) (k : ℕ) → r'.table ≡ r.table → r'.items ≡ r.items → r'.block ≡ r.block → r'.count ≡ r.count → ((w : Slot) → get same_slot r'.env w ≡ cond (same_slot v w) (Some k) (get same_slot r.env w))
-      → (s : State Slot) (t : Term) → IsAt trees r s → Names trees r.table k t → IsAt trees r' (M.set_in Slot same_slot s v t)
-  set_at r r' v k table items block count updates s t h named = record {
-    block = block ∙ h.block;
-    count = count ∙ h.count;
-    typed = rw table h.typed;
-    env = λ w. rw (table, updates w) (read_set r.table (same_slot v w) k (get same_slot r.env w) t (s.env w) named (h.env w));
-    shown = rw (table, items) h.shown;
-  }
-
-  -- ---- an item is shown
-
-  pub note_at : (r r' : Run) (x : TraceItem) → r'.table ≡ r.table → r'.env ≡ r.env → r'.block ≡ r.block → r'.count ≡ r.count → r'.items.items ≡ r.items.items ++ x ∷ []
-      → (s : State Slot) (i : Item) → IsAt trees r s → ShowsItem trees r.table x i → IsAt trees r' (M.shows Slot same_slot s i)
-  note_at r r' x table env block count items s i h shows = record {
-    block = block ∙ h.block;
-    count = count ∙ h.count;
-    typed = rw table h.typed;
-    env = λ v. rw (table, env) (h.env v);
-    shown = rw (table, items) (matched_push (ShowsItem trees r.table) r.items.items s.shown x i h.shown shows);
-  }
 
   -- ---- operands
 
@@ -133,18 +100,8 @@ module _ (trees : List TypeTree) where
   all_below ns [] (t ∷ ts) h = elim h [ ]
   all_below ns (k ∷ ks) [] h = elim h [ ]
 
-  pub read_none : (r : Run) (s : State Slot) (v : Slot) → IsAt trees r s → get same_slot r.env v ≡ None → s.env v ≡ Unset
-  read_none r s v h none = subst (λ (o : Option ℕ). Reads trees r.table o (s.env v)) none (h.env v)
-
   pub named_push : (old new : List TermNode) (ks : List ℕ) (ts : List Term) (k : ℕ) (t : Term) → Keeps trees old new → AllNamed trees old ks ts → Names trees new k t → AllNamed trees new (ks ++ k ∷ []) (ts ++ t ∷ [])
   named_push old new ks ts k t keeps h named = matched_push (Names trees new) ks ts k t (all_kept old new keeps ks ts h) named
-
-  -- one operand more is read
-  pub reads_step : (old new : List TermNode) (env : Slot → Term) (xs : List Source) (i : ℕ) (d : Source) (ks : List ℕ) (k : ℕ) → i < length xs → Keeps trees old new → AllNamed trees old ks (map (M.read env) (map (source_of trees) (take i xs))) → Names trees new k (M.read env (source_of trees (get_or xs i d)))
-      → AllNamed trees new (ks ++ k ∷ []) (map (M.read env) (map (source_of trees) (take (i + 1) xs)))
-  reads_step old new env xs i d ks k lt keeps h named =
-      subst (AllNamed trees new (ks ++ k ∷ [])) (sym (take_read (M.read env) (source_of trees) xs i d lt))
-      (named_push old new ks (map (M.read env) (map (source_of trees) (take i xs))) k (M.read env (source_of trees (get_or xs i d))) keeps h named)
 
   -- the terms that stand at places are what is looked up there
   pub named_terms : (ns : List TermNode) (ks : List ℕ) (us : List Term) → AllNamed trees ns ks us → map (term_at (terms trees ns)) ks ≡ us
@@ -152,52 +109,6 @@ module _ (trees : List TypeTree) where
   named_terms ns (k ∷ ks) (u ∷ us) h = let e = get_or_from_slice_get (terms trees ns) k u Unset h.0 in let rest = named_terms ns ks us h.1 in cc
   named_terms ns [] (u ∷ us) h = elim h [ ]
   named_terms ns (k ∷ ks) [] h = elim h [ ]
-
-  -- ---- rows
-
-  -- whether a run has read an unset value is not kept
-  pub at_alike : (r : Run) (s s' : State Slot) → s'.block ≡ s.block → ((v : Slot) → s'.env v ≡ s.env v) → s'.count ≡ s.count → s'.shown ≡ s.shown → IsAt trees r s → IsAt trees r s'
-  at_alike r s s' block env count shown h = record {
-    block = h.block ∙ sym block;
-    count = h.count ∙ sym count;
-    typed = h.typed;
-    env = λ v. subst (Reads trees r.table (get same_slot r.env v)) (sym (env v)) (h.env v);
-    shown = subst (Matched (ShowsItem trees r.table) r.items.items) (sym shown) h.shown;
-  }
-
-  pub answered_at : (q r : Run) (s : State Slot) (v : Slot) (i : Item) (n : ℕ) → n ≡ s.count → r.table ≡ q.table → r.env ≡ q.env → r.block ≡ q.block → r.items ≡ q.items → r.count ≡ n + 1
-      → IsAt trees q (M.set_in Slot same_slot (M.shows Slot same_slot s i) v (Answer n)) → IsAt trees r (M.answered Slot same_slot s v i)
-  answered_at q r s v i n is table env block items count h =
-      let t : Answer n ≡ Answer s.count = ap Answer is in
-      record {
-        block = block ∙ h.block;
-        count = omega (arith, count, is);
-        typed = rw table h.typed;
-        env = λ w. rw (table, env) (subst (λ (t : Term). Reads trees q.table (get same_slot q.env w) (M.set Slot same_slot s.env v t w)) t (h.env w));
-        shown = rw (table, items) h.shown;
-      }
-
-  module _ (r : Run) (s : State Slot) (v : Slot) (o : Op) (types : Types) (operands : List Source) where
-    abbrev ts : List Term
-    ts = map (M.read s.env) (map (source_of trees) operands)
-
-    abbrev event : Item
-    event = M.Event o (type_at trees types.result) (map (type_at trees) types.operands) ts
-
-    abbrev effect_by : Family → State Slot
-    effect_by f = M.effect Slot same_slot (M.reads Slot same_slot s ts) v event (made_by f o (type_at trees types.result) ts)
-
-    pub built_at : is_built (family o) ≡ true → IsAt trees r (M.set_in Slot same_slot s v (Expr o (type_at trees types.result) (terms_of ts)))
-        → IsAt trees r (M.apply Slot same_slot s v (action_of trees (A.Applies o types operands)))
-    built_at silent h =
-        subst (λ (f : Family). IsAt trees r (effect_by f)) (sym (builds (family o) silent)) (at_alike r (M.set_in Slot same_slot s v (Expr o (type_at trees types.result) (terms_of ts))) (effect_by Builds) refl (λ w. refl) refl refl h)
-
-    pub shown_at : is_built (family o) ≡ false → IsAt trees r (M.answered Slot same_slot s v event) → IsAt trees r (M.apply Slot same_slot s v (action_of trees (A.Applies o types operands)))
-    shown_at shows h =
-        subst (λ (f : Family). IsAt trees r (effect_by f)) (sym (not_built (family o) shows)) (at_alike r (M.answered Slot same_slot s v event) (effect_by Shows) refl (λ w. refl) refl refl h)
-
-  pub straight_step : (s : State Slot) (rows : List Row) (i : ℕ) (d : Row) → i < length rows → M.straight Slot same_slot s (map (row_of trees) (take (i + 1) rows)) ≡ M.apply Slot same_slot (M.straight Slot same_slot s (map (row_of trees) (take i rows))) (get_or rows i d).result (action_of trees (get_or rows i d).action)
-  straight_step s rows i d lt = ap (M.straight Slot same_slot s) (take_push (row_of trees) rows i d lt) ∙ straight_push s (map (row_of trees) (take i rows)) (row_of trees (get_or rows i d))
 
   -- ---- what was shown
 
@@ -228,6 +139,104 @@ module _ (trees : List TypeTree) where
   items_below ns (x ∷ xs) (i ∷ is) h = All-cons (HasPlacesBelow (length trees) (length ns)) x xs (item_below ns x i h.0) (items_below ns xs is h.1)
   items_below ns [] (i ∷ is) h = elim h [ ]
   items_below ns (x ∷ xs) [] h = elim h [ ]
+
+-- ---- a run
+
+module _ (now : Contents) where
+  -- a run of which the table alone has grown
+  pub grown_at : (r r' : Run) → r'.env ≡ r.env → r'.items ≡ r.items → r'.block ≡ r.block → r'.count ≡ r.count → Keeps now.types r.table r'.table → AreTyped (length now.types) r'.table → (s : State Slot) → IsAt now r s → IsAt now r' s
+  grown_at r r' env items block count keeps typed s h = record {
+    block = block ∙ h.block;
+    count = count ∙ h.count;
+    typed = typed;
+    constants = λ k t at. keeps k t (h.constants k t at);
+    env = λ v. rw env (read_kept now.types r.table r'.table keeps (get same_slot r.env v) (s.env v) (h.env v));
+    shown = rw items (items_kept now.types r.table r'.table keeps r.items.items s.shown h.shown);
+  }
+
+  -- ---- a value is set
+
+  pub set_at : (r r' : Run) (v : Slot) (k : ℕ) → r'.table ≡ r.table → r'.items ≡ r.items → r'.block ≡ r.block → r'.count ≡ r.count → ((w : Slot) → get same_slot r'.env w ≡ cond (same_slot v w) (Some k) (get same_slot r.env w))
+      → (s : State Slot) (t : Term) → IsAt now r s → Names now.types r.table k t → IsAt now r' (M.set_in Slot same_slot s v t)
+  set_at r r' v k table items block count updates s t h named = record {
+    block = block ∙ h.block;
+    count = count ∙ h.count;
+    typed = rw table h.typed;
+    constants = rw table h.constants;
+    env = λ w. rw (table, updates w) (read_set now.types r.table (same_slot v w) k (get same_slot r.env w) t (s.env w) named (h.env w));
+    shown = rw (table, items) h.shown;
+  }
+
+  -- ---- an item is shown
+
+  pub note_at : (r r' : Run) (x : TraceItem) → r'.table ≡ r.table → r'.env ≡ r.env → r'.block ≡ r.block → r'.count ≡ r.count → r'.items.items ≡ r.items.items ++ x ∷ []
+      → (s : State Slot) (i : Item) → IsAt now r s → ShowsItem now.types r.table x i → IsAt now r' (M.shows Slot same_slot s i)
+  note_at r r' x table env block count items s i h shows = record {
+    block = block ∙ h.block;
+    count = count ∙ h.count;
+    typed = rw table h.typed;
+    constants = rw table h.constants;
+    env = λ v. rw (table, env) (h.env v);
+    shown = rw (table, items) (matched_push (ShowsItem now.types r.table) r.items.items s.shown x i h.shown shows);
+  }
+
+  pub read_none : (r : Run) (s : State Slot) (v : Slot) → IsAt now r s → get same_slot r.env v ≡ None → s.env v ≡ Unset
+  read_none r s v h none = subst (λ (o : Option ℕ). Reads now.types r.table o (s.env v)) none (h.env v)
+
+  -- one operand more is read
+  pub reads_step : (old new : List TermNode) (env : Slot → Term) (xs : List Source) (i : ℕ) (d : Source) (ks : List ℕ) (k : ℕ) → i < length xs → Keeps now.types old new → AllNamed now.types old ks (map (M.read env) (map (source_of now.terms) (take i xs))) → Names now.types new k (M.read env (source_of now.terms (get_or xs i d)))
+      → AllNamed now.types new (ks ++ k ∷ []) (map (M.read env) (map (source_of now.terms) (take (i + 1) xs)))
+  reads_step old new env xs i d ks k lt keeps h named =
+      subst (AllNamed now.types new (ks ++ k ∷ [])) (sym (take_read (M.read env) (source_of now.terms) xs i d lt))
+      (named_push now.types old new ks (map (M.read env) (map (source_of now.terms) (take i xs))) k (M.read env (source_of now.terms (get_or xs i d))) keeps h named)
+
+  -- ---- rows
+
+  -- whether a run has read an unset value is not kept
+  pub at_alike : (r : Run) (s s' : State Slot) → s'.block ≡ s.block → ((v : Slot) → s'.env v ≡ s.env v) → s'.count ≡ s.count → s'.shown ≡ s.shown → IsAt now r s → IsAt now r s'
+  at_alike r s s' block env count shown h = record {
+    block = h.block ∙ sym block;
+    count = h.count ∙ sym count;
+    typed = h.typed;
+    constants = h.constants;
+    env = λ v. subst (Reads now.types r.table (get same_slot r.env v)) (sym (env v)) (h.env v);
+    shown = subst (Matched (ShowsItem now.types r.table) r.items.items) (sym shown) h.shown;
+  }
+
+  pub answered_at : (q r : Run) (s : State Slot) (v : Slot) (i : Item) (n : ℕ) → n ≡ s.count → r.table ≡ q.table → r.env ≡ q.env → r.block ≡ q.block → r.items ≡ q.items → r.count ≡ n + 1
+      → IsAt now q (M.set_in Slot same_slot (M.shows Slot same_slot s i) v (Answer n)) → IsAt now r (M.answered Slot same_slot s v i)
+  answered_at q r s v i n is table env block items count h =
+      let t : Answer n ≡ Answer s.count = ap Answer is in
+      record {
+        block = block ∙ h.block;
+        count = omega (arith, count, is);
+        typed = rw table h.typed;
+        constants = rw table h.constants;
+        env = λ w. rw (table, env) (subst (λ (t : Term). Reads now.types q.table (get same_slot q.env w) (M.set Slot same_slot s.env v t w)) t (h.env w));
+        shown = rw (table, items) h.shown;
+      }
+
+  module _ (r : Run) (s : State Slot) (v : Slot) (o : Op) (types : Types) (operands : List Source) where
+    abbrev ts : List Term
+    ts = map (M.read s.env) (map (source_of now.terms) operands)
+
+    abbrev event : Item
+    event = M.Event o (type_at now.types types.result) (map (type_at now.types) types.operands) ts
+
+    abbrev effect_by : Family → State Slot
+    effect_by f = M.effect Slot same_slot (M.reads Slot same_slot s ts) v event (made_by f o (type_at now.types types.result) ts)
+
+    pub built_at : is_built (family o) ≡ true → IsAt now r (M.set_in Slot same_slot s v (Expr o (type_at now.types types.result) (terms_of ts)))
+        → IsAt now r (M.apply Slot same_slot s v (action_of now (A.Applies o types operands)))
+    built_at silent h =
+        subst (λ (f : Family). IsAt now r (effect_by f)) (sym (builds (family o) silent)) (at_alike r (M.set_in Slot same_slot s v (Expr o (type_at now.types types.result) (terms_of ts))) (effect_by Builds) refl (λ w. refl) refl refl h)
+
+    pub shown_at : is_built (family o) ≡ false → IsAt now r (M.answered Slot same_slot s v event) → IsAt now r (M.apply Slot same_slot s v (action_of now (A.Applies o types operands)))
+    shown_at shows h =
+        subst (λ (f : Family). IsAt now r (effect_by f)) (sym (not_built (family o) shows)) (at_alike r (M.answered Slot same_slot s v event) (effect_by Shows) refl (λ w. refl) refl refl h)
+
+  pub straight_step : (s : State Slot) (rows : List Row) (i : ℕ) (d : Row) → i < length rows → M.straight Slot same_slot s (map (row_of now) (take (i + 1) rows)) ≡ M.apply Slot same_slot (M.straight Slot same_slot s (map (row_of now) (take i rows))) (get_or rows i d).result (action_of now (get_or rows i d).action)
+  straight_step s rows i d lt = ap (M.straight Slot same_slot s) (take_push (row_of now) rows i d lt) ∙ straight_push s (map (row_of now) (take i rows)) (row_of now (get_or rows i d))
 
 -- ---- the types of an event
 

@@ -37,13 +37,15 @@ module _ (trees : List TypeTree) where
   same_term ts us n same N.Unset h = refl
   same_term ts us n same (N.Int w v) h = refl
   same_term ts us n same (N.Filled fill ty) h = refl
+  same_term ts us n same (N.ListOf ty ks) h = ap (λ (l : List Term). M.ListOf (type_at trees ty) (terms_of l)) (same_parts ts us n same ks h)
+  same_term ts us n same (N.SplatOf ty k) h = ap (M.SplatOf (type_at trees ty)) (same k h)
   same_term ts us n same (N.Expr o ty ks) h = ap (λ (l : List Term). M.Expr o (type_at trees ty) (terms_of l)) (same_parts ts us n same ks h)
 
   pub length-terms : (ns : List TermNode) → length (terms trees ns) ≡ length ns
   length-terms ns = length-after (node_term trees) Unset [] ns ∙ omega arith
 
   -- the term at a place is that of the node there
-  node_at : (ns : List TermNode) (i : ℕ) (x : TermNode) → slice_get ns i ≡ Some x → HasPartsBelow i x → get_or (terms trees ns) i Unset ≡ node_term trees (terms trees ns) x
+  pub node_at : (ns : List TermNode) (i : ℕ) (x : TermNode) → slice_get ns i ≡ Some x → HasPartsBelow i x → get_or (terms trees ns) i Unset ≡ node_term trees (terms trees ns) x
   node_at ns i x at below = at_number (node_term trees) Unset HasPartsBelow same_term [] ns i i x (omega arith) at below
 
   -- more nodes leave the earlier terms
@@ -131,6 +133,14 @@ module _ (trees : List TypeTree) (apart : IsDistinctList trees) where
   same_nodes : (ts : List Term) (n m : ℕ) → ((i j : ℕ) → i < n → j < m → get_or ts i Unset ≡ get_or ts j Unset → i ≡ j) → (x y : TermNode) → HasPartsBelow n x → HasPartsBelow m y → HasTypeBelow (length trees) x → HasTypeBelow (length trees) y → node_term trees ts x ≡ node_term trees ts y → x ≡ y
   same_nodes ts n m known (N.Expr o t ks) (N.Expr p u ls) a b below_t below_u h =
       let same : ks ≡ ls = same_lists ts n m known ks ls a b (cc) in
+      let types : t ≡ u = type_known t u below_t below_u (cc) in
+      cc
+  same_nodes ts n m known (N.ListOf t ks) (N.ListOf u ls) a b below_t below_u h =
+      let same : ks ≡ ls = same_lists ts n m known ks ls a b (cc) in
+      let types : t ≡ u = type_known t u below_t below_u (cc) in
+      cc
+  same_nodes ts n m known (N.SplatOf t k) (N.SplatOf u l) a b below_t below_u h =
+      let same : k ≡ l = known k l a b (cc) in
       let types : t ≡ u = type_known t u below_t below_u (cc) in
       cc
   same_nodes ts n m known (N.Filled f t) (N.Filled g u) a b below_t below_u h = let types : t ≡ u = type_known t u below_t below_u (cc) in cc

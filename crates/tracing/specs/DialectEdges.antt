@@ -1,5 +1,5 @@
 -- The blocks of a function of the dialect and the edges between them, as a body has them.
-use Rattle.std.specs.Prelude.{◌≡◌, ℕ, zero, suc, Bool, List, [], ◌∷◌, Option, Some, is_some, map, filter, length, nat_eq}
+use Rattle.std.specs.Prelude.{◌≡◌, ℕ, zero, suc, Bool, List, [], ◌∷◌, Option, Some, All, is_some, map, filter, length, nat_eq}
 use Rattle.std.specs.List.{position_or_len}
 use Rattle.dialect_types.specs.Trees.{type_trees}
 use Rattle.dialect_core.specs.declared.numbers.OpRef.{OpRef}
@@ -9,7 +9,7 @@ use Rattle.dialect_core.specs.declared.ops.Successor.{Successor}
 use Rattle.dialect_core.specs.ContextData.{ContextData}
 use Rattle.dialect_core.specs.Lists.{list_at}
 use Rattle.dialect_core.specs.Data.{DialectBlock, Func, op_at, block_in, type_in}
-use Rattle.dialect_core.specs.WellFormed.{IsWellFormedBlock}
+use Rattle.dialect_core.specs.WellFormed.{IsPlainAt, IsWellFormedBlock}
 use Rattle.meaning.specs.Pairs.{Matched}
 use Rattle.tracing.specs.declared.body.Slot.{Slot}
 use Rattle.tracing.specs.declared.body.Slot.TheVariants.{Input}
@@ -50,6 +50,7 @@ edge_to numbers s = record { to = position_or_len (nat_eq s.block.0) numbers; so
 pub record IsBlockIn (c : ContextData) (h : InContext c) (b : BlockRef) (y : DialectBlock) : Type 0 where
   pub here : block_in (type_trees c.types) c b ≡ Some y
   pub form : IsWellFormedBlock (type_in c) h.function y
+  pub plain : All (IsPlainAt c) (list_at c.lists b)
 
 -- they are the blocks of the function, in order
 abbrev pub AreBlocksIn : (c : ContextData) → InContext c → List BlockRef → Type 0

@@ -2,6 +2,8 @@
 pub mod Types
 pub mod TypePlaces
 pub mod Table
+pub mod Contents
+pub mod Tables
 pub mod Bodies
 pub mod Runs
 pub mod Renamed

@@ -3,6 +3,7 @@ use Rattle.std.specs.Prelude.{◌≡◌, ℕ, false, List, [], Option, Some, Non
 use Rattle.indexmap.specs.IndexMap.{get}
 use Rattle.std.specs.List.{filter_map, position_or_len}
 use Rattle.std.specs.Option.{option_map, option_map_or}
+use Rattle.llvm_core.specs.declared.numbers.LLVMConst.{LLVMConst}
 use Rattle.llvm_core.specs.declared.numbers.LLVMInstRef.{LLVMInstRef}
 use Rattle.llvm_core.specs.declared.numbers.LLVMBasicBlock.{LLVMBasicBlock}
 use Rattle.llvm_core.specs.declared.code.LLVMValue.{LLVMValue}
@@ -14,11 +15,12 @@ use Rattle.llvm_core.specs.Module.{Module}
 use Rattle.llvm_core.specs.Sound.{IsModule}
 use Rattle.llvm_core.specs.Parts.{IsValue}
 use Rattle.llvm_core.specs.Data as L
-use Rattle.llvm_core.specs.Data.{TypeTree, Placed, Function, trees_of, function_of, block_at, placed_at, operand_of, operand_type, phi_entries, data_of}
+use Rattle.llvm_core.specs.Data.{Placed, Function, trees_of, function_of, block_at, placed_at, operand_of, operand_type, phi_entries, data_of, const_at}
 use Rattle.llvm_core.specs.Checked.{IsChecked, home, is_outside}
 use Rattle.llvm_core.specs.Form.{is_phi}
+use Rattle.meaning.specs.Terms.{Term}
 use Rattle.meaning.specs.Machine as M
-use Rattle.meaning.specs.Llvm.{Key, ParamKey, ResultKey, setting_of, operand, row, entry_for}
+use Rattle.meaning.specs.Llvm.{Key, ParamKey, ResultKey, setting_of, operand, row, entry_for, const_term}
 use Rattle.meaning.specs.Setting.{Setting}
 use Rattle.meaning.specs.Pairs.{Matched}
 use Rattle.tracing.specs.declared.body.Slot.{Slot}
@@ -27,7 +29,8 @@ use Rattle.tracing.specs.declared.body.Source.{Source}
 use Rattle.tracing.specs.declared.body.Edge.{Edge}
 use Rattle.tracing.specs.declared.llvm_index.Phi.{Phi}
 use Rattle.tracing.specs.declared.llvm_index.Index.{Index}
-use Rattle.tracing.specs.Types.{Lasts}
+use Rattle.tracing.specs.Contents.{Contents, Lasts}
+use Rattle.tracing.specs.Tables.{Origin}
 use Rattle.tracing.specs.Bodies.{HandsOver}
 use Rattle.tracing.specs.Renamed.{renamed, renamed_row}
 
@@ -50,6 +53,14 @@ data_in m h = function_of (trees_of m) m.blocks m.insts (h.number, h.function)
 -- what it tells its bodies
 abbrev pub setting_in : Module → Setting
 setting_in m = setting_of (data_of m)
+
+-- the term of a constant
+abbrev pub term_in : Module → LLVMConst → Term
+term_in m c = const_term (setting_in m) (const_at (trees_of m).consts c)
+
+-- what its bodies are made from
+abbrev pub origin_in : Module → Origin
+origin_in m = record { types = (trees_of m).types; term = λ (q : ℕ). term_in m (record { 0 = q }) }
 
 abbrev pub operand_in : Module → LLVMValue → M.Operand Slot
 operand_in m v = renamed slot_of (operand (setting_in m) (operand_of (trees_of m) v))
@@ -85,24 +96,24 @@ abbrev pub first_of : {X : Type 0} → Option X → Option X → Option X
 first_of None y = y
 first_of (Some x) y = Some x
 
--- the phi's slot, and what it takes for each block that an edge comes from, by these types
-pub record IsPhiOf (m : Module) (trees : List TypeTree) (x : Phi) (p : Placed) : Type 0 where
+-- the phi's slot, and what it takes for each block that an edge comes from, by these tables
+pub record IsPhiOf (m : Module) (c : Contents) (x : Phi) (p : Placed) : Type 0 where
   pub entries : List (L.Operand × ℕ)
   pub are : phi_entries p.instruction ≡ Some entries
   pub slot : x.slot ≡ Result p.number
-  pub incoming : (from : ℕ) → HandsOver trees (get nat_eq x.incoming from) (option_map (renamed slot_of) (entry_for (setting_in m) from entries))
+  pub incoming : (from : ℕ) → HandsOver c (get nat_eq x.incoming from) (option_map (renamed slot_of) (entry_for (setting_in m) from entries))
 
--- they are phis, in order, by these types and however many more come
-abbrev pub ArePhis : Module → List TypeTree → List Phi → List Placed → Type 0
-ArePhis m trees xs ps = Lasts trees (λ (ts : List TypeTree). Matched (IsPhiOf m ts) xs ps)
+-- they are phis, in order, by these tables and however much more comes
+abbrev pub ArePhis : Module → Contents → List Phi → List Placed → Type 0
+ArePhis m c xs ps = Lasts c (λ (d : Contents). Matched (IsPhiOf m d) xs ps)
 
--- the phis of instructions, in order, by these types
-abbrev pub ArePhisOf : Module → List TypeTree → List Phi → List Placed → Type 0
-ArePhisOf m trees xs ps = Matched (IsPhiOf m trees) xs (filter is_phi ps)
+-- the phis of instructions, in order, by these tables
+abbrev pub ArePhisOf : Module → Contents → List Phi → List Placed → Type 0
+ArePhisOf m c xs ps = Matched (IsPhiOf m c) xs (filter is_phi ps)
 
 -- those of blocks
-abbrev pub AreBlockPhis : Module → List TypeTree → List (List Phi) → List L.Block → Type 0
-AreBlockPhis m trees all ys = Matched (λ (xs : List Phi) (y : L.Block). ArePhisOf m trees xs y.instructions) all ys
+abbrev pub AreBlockPhis : Module → Contents → List (List Phi) → List L.Block → Type 0
+AreBlockPhis m c all ys = Matched (λ (xs : List Phi) (y : L.Block). ArePhisOf m c xs y.instructions) all ys
 
 abbrev pub slots_of : List Phi → List Slot
 slots_of xs = map (λ (x : Phi). x.slot) xs
@@ -119,14 +130,14 @@ pub record IsBlockIn (m : Module) (h : InChecked m) (b : LLVMBasicBlock) (y : L.
   pub at : slice_get (data_in m h).blocks place ≡ Some y
   pub here : block_at (trees_of m) m.blocks m.insts b ≡ Some y
 
--- the phis of each block, by these types, and the place of each by its number
-pub record IsIndexOf (m : Module) (h : InChecked m) (trees : List TypeTree) (x : Index) : Type 0 where
+-- the phis of each block, by these tables, and the place of each by its number
+pub record IsIndexOf (m : Module) (h : InChecked m) (c : Contents) (x : Index) : Type 0 where
   pub places : x.places ≡ map (λ (y : L.Block). y.number) (data_in m h).blocks
-  pub phis : AreBlockPhis m trees x.phis (data_in m h).blocks
+  pub phis : AreBlockPhis m c x.phis (data_in m h).blocks
 
--- however many more types come
-abbrev pub IsIndex : (m : Module) → InChecked m → List TypeTree → Index → Type 0
-IsIndex m h trees x = Lasts trees (λ (ts : List TypeTree). IsIndexOf m h ts x)
+-- however much more comes to the tables
+abbrev pub IsIndex : (m : Module) → InChecked m → Contents → Index → Type 0
+IsIndex m h c x = Lasts c (λ (d : Contents). IsIndexOf m h d x)
 
 abbrev pub params_in : Index → List (List Slot)
 params_in x = map slots_of x.phis

@@ -1,5 +1,5 @@
 -- A run as the program keeps it, beside the machine's state.
-use Rattle.std.specs.Prelude.{◌≡◌, ◌<◌, ℕ, Bool, true, false, List, [], ◌∷◌, Option, Some, None, All, length, map, slice_get}
+use Rattle.std.specs.Prelude.{◌≡◌, ◌<◌, ℕ, Bool, true, false, List, [], ◌∷◌, Option, Some, None, All, length, map}
 use Rattle.indexmap.specs.IndexMap.{get}
 use Rattle.kinds.specs.declared.rules.Family.{Family}
 use Rattle.kinds.specs.declared.rules.Family.TheVariants.{Shows, Builds}
@@ -16,7 +16,8 @@ use Rattle.tracing.specs.declared.trace.TraceItem.{TraceItem}
 use Rattle.tracing.specs.declared.trace.TraceItem.TheVariants.{Block, Event}
 use Rattle.tracing.specs.declared.run.Run.{Run}
 use Rattle.tracing.specs.Types.{AreOver, Stands, AllStand, HasTypesBelow}
-use Rattle.tracing.specs.Table.{terms, term_at, IsGrounded, AreTyped}
+use Rattle.tracing.specs.Table.{terms, term_at, IsGrounded, AreTyped, IsTermAt, AreTermsAt, KeepsTerms}
+use Rattle.tracing.specs.Contents.{Contents}
 use Rattle.tracing.specs.Bodies.{same_slot}
 
 -- ---- items
@@ -55,11 +56,11 @@ pub record HasTables (t : Trace) : Type 0 where
 module _ (trees : List TypeTree) where
   -- the term stands at that place
   abbrev pub Names : List TermNode → ℕ → Term → Type 0
-  Names ns k t = slice_get (terms trees ns) k ≡ Some t
+  Names ns k t = IsTermAt (terms trees ns) k t
 
   -- the terms stand at those places
   abbrev pub AllNamed : List TermNode → List ℕ → List Term → Type 0
-  AllNamed ns ks ts = Matched (Names ns) ks ts
+  AllNamed ns ks ts = AreTermsAt (terms trees ns) ks ts
 
   -- a value has the term at its place, and none where it has no place
   abbrev pub Reads : List TermNode → Option ℕ → Term → Type 0
@@ -72,21 +73,23 @@ module _ (trees : List TypeTree) where
   ShowsItem ns (Block b) (M.Event p ty tys ts) = ⊥
   ShowsItem ns (Event o types ks) (M.Entered c) = ⊥
 
-  -- the run is at that state, whether or not it has read an unset value
-  pub record IsAt (r : Run) (s : State Slot) : Type 0 where
-    pub block : r.block ≡ s.block
-    pub count : r.count ≡ s.count
-    pub typed : AreTyped (length trees) r.table
-    pub env : (v : Slot) → Reads r.table (get same_slot r.env v) (s.env v)
-    pub shown : Matched (ShowsItem r.table) r.items.items s.shown
-
   -- what stood at a place stands there
   abbrev pub Keeps : List TermNode → List TermNode → Type 0
-  Keeps old new = (k : ℕ) (t : Term) → Names old k t → Names new k t
+  Keeps old new = KeepsTerms (terms trees old) (terms trees new)
 
--- it is at a state, by as many types as are asked for
-abbrev pub IsRunOver : (ℕ → Type 0) → Run → Type 0
-IsRunOver P r = (trees : List TypeTree) × (s : State Slot) × P (length trees) × IsAt trees r s
+-- The run is at that state, whether or not it has read an unset value, by what the tables of its body hold: the terms of the
+-- constants stand in its table where they stood there.
+pub record IsAt (c : Contents) (r : Run) (s : State Slot) : Type 0 where
+  pub block : r.block ≡ s.block
+  pub count : r.count ≡ s.count
+  pub typed : AreTyped (length c.types) r.table
+  pub constants : KeepsTerms c.terms (terms c.types r.table)
+  pub env : (v : Slot) → Reads c.types r.table (get same_slot r.env v) (s.env v)
+  pub shown : Matched (ShowsItem c.types r.table) r.items.items s.shown
+
+-- it is at a state, by such tables as are asked for
+abbrev pub IsRunOver : (Contents → Type 0) → Run → Type 0
+IsRunOver P r = (c : Contents) × (s : State Slot) × P c × IsAt c r s
 
 abbrev pub is_built : Family → Bool
 is_built Shows = false
@@ -102,7 +105,7 @@ abbrev pub with_each : State Slot → List Slot → List Term → State Slot
 with_each s vs ts = record s { env = set_each s.env vs ts }
 
 -- the run is where the jump leads, and where it was if there is no jump
-abbrev pub IsJumped : List TypeTree → Run → Bool → State Slot → Option (State Slot) → Type 0
-IsJumped trees r true s (Some s') = IsAt trees r s'
-IsJumped trees r false s None = IsAt trees r s
-IsJumped trees r _ s _ = ⊥
+abbrev pub IsJumped : Contents → Run → Bool → State Slot → Option (State Slot) → Type 0
+IsJumped c r true s (Some s') = IsAt c r s'
+IsJumped c r false s None = IsAt c r s
+IsJumped c r _ s _ = ⊥

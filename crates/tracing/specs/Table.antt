@@ -1,8 +1,11 @@
 -- Terms in a table, each with its parts by the places of earlier ones.
-use Rattle.std.specs.Prelude.{◌≡◌, ◌<◌, ℕ, List, [], ◌++◌, Some, All, map, slice_get, slice_index_or}
+use Rattle.std.specs.Prelude.{◌≡◌, ◌<◌, ℕ, List, [], ◌++◌, Option, Some, All, map, slice_get, slice_index_or}
+use Rattle.kinds.specs.declared.fill.Fill.{Fill}
 use Rattle.llvm_core.specs.Data.{TypeTree, trees_after, type_at}
 use Rattle.meaning.specs.Terms as M
 use Rattle.meaning.specs.Terms.{Term, Unset, terms_of}
+use Rattle.meaning.specs.Constants.{fill_of}
+use Rattle.meaning.specs.Pairs.{Matched}
 use Rattle.tracing.specs.declared.table.TermNode.{TermNode}
 use Rattle.tracing.specs.declared.table.TermNode.TheVariants as N
 
@@ -17,6 +20,8 @@ node_term trees ts (N.Answer n) = M.Answer n
 node_term trees ts N.Unset = Unset
 node_term trees ts (N.Int w v) = M.Int w v
 node_term trees ts (N.Filled fill ty) = M.Filled fill (type_at trees ty)
+node_term trees ts (N.ListOf ty ks) = M.ListOf (type_at trees ty) (terms_of (map (term_at ts) ks))
+node_term trees ts (N.SplatOf ty k) = M.SplatOf (type_at trees ty) (term_at ts k)
 node_term trees ts (N.Expr o ty ks) = M.Expr o (type_at trees ty) (terms_of (map (term_at ts) ks))
 
 -- the terms of a table, each made of earlier ones, with types among those trees
@@ -25,6 +30,8 @@ terms trees ns = trees_after (node_term trees) [] ns
 
 -- the parts of a node are places below n
 abbrev pub HasPartsBelow : ℕ → TermNode → Type 0
+HasPartsBelow n (N.ListOf ty ks) = All (λ (k : ℕ). k < n) ks
+HasPartsBelow n (N.SplatOf ty k) = k < n
 HasPartsBelow n (N.Expr o ty ks) = All (λ (k : ℕ). k < n) ks
 HasPartsBelow n _ = Unit {0}
 
@@ -35,6 +42,8 @@ IsGrounded ns = (i : ℕ) (n : TermNode) → slice_get ns i ≡ Some n → HasPa
 -- the type of a node is a number below n
 abbrev pub HasTypeBelow : ℕ → TermNode → Type 0
 HasTypeBelow n (N.Filled fill ty) = ty.0 < n
+HasTypeBelow n (N.ListOf ty ks) = ty.0 < n
+HasTypeBelow n (N.SplatOf ty k) = ty.0 < n
 HasTypeBelow n (N.Expr o ty ks) = ty.0 < n
 HasTypeBelow n _ = Unit {0}
 
@@ -47,3 +56,21 @@ pub record Gives (trees : List TypeTree) (old new : List TermNode) (k : ℕ) (t 
   pub more : List TermNode
   pub grown : new ≡ old ++ more
   pub here : slice_get (terms trees new) k ≡ Some t
+
+-- ---- terms at places
+
+-- the term stands at that place
+abbrev pub IsTermAt : List Term → ℕ → Term → Type 0
+IsTermAt ts k t = slice_get ts k ≡ Some t
+
+-- the terms stand at those places
+abbrev pub AreTermsAt : List Term → List ℕ → List Term → Type 0
+AreTermsAt ts ks us = Matched (IsTermAt ts) ks us
+
+-- what stood at a place stands there
+abbrev pub KeepsTerms : List Term → List Term → Type 0
+KeepsTerms old new = (k : ℕ) (t : Term) → IsTermAt old k t → IsTermAt new k t
+
+-- zero, undef or poison, where the terms at places are that
+abbrev pub fills_at : List Term → List ℕ → List (Option Fill)
+fills_at ts ks = map (λ (k : ℕ). fill_of (term_at ts k)) ks

@@ -50,7 +50,3 @@ HasTypesBelow n types = (types.result.0 < n) × AreBelow n types.operands
 -- what stood at a number stands there
 abbrev pub KeepsTypes : List TypeTree → List TypeTree → Type 0
 KeepsTypes old new = (k : ℕ) (t : TypeTree) → slice_get old k ≡ Some t → slice_get new k ≡ Some t
-
--- it is so of these types, however many more come
-abbrev pub Lasts : List TypeTree → (List TypeTree → Type 0) → Type 0
-Lasts trees P = (later : List TypeTree) → KeepsTypes trees later → P later

@@ -1,8 +1,8 @@
 //! What runs see of the body of a function, whichever side it is of.
 
+use crate::table::TermTable;
 use crate::trace::Types;
 use crate::type_table::TypeTable;
-use kinds::fill::Fill;
 use kinds::op::Op;
 use llvm_core::numbers::LLVMType;
 use support::items::Items;
@@ -16,30 +16,19 @@ pub enum Slot {
     Result(u32),
 }
 
-/// What a constant is.
-#[derive(Clone, Copy, Drop)]
-pub enum Held {
-    /// An integer of a width.
-    Int(u32, u128),
-    /// Zero, undef or poison of a type, which is a place of the table of types.
-    Filled(Fill, LLVMType),
-    /// What stands for nothing yet, as a placeholder.
-    Unset,
-}
-
 /// An operand.
 #[derive(Clone, Copy, Drop)]
 pub enum Source {
     At(Slot),
-    /// A constant, which is written in place.
-    Fixed(Held),
+    /// A constant, which is a place of the table of terms.
+    Fixed(u32),
 }
 
 /// What an instruction or operation does.
 #[derive(Drop)]
 pub enum Action {
-    /// It holds a constant.
-    Holds(Held),
+    /// It holds a constant, which is a place of the table of terms.
+    Holds(u32),
     /// It applies a row of the table to operands.
     Applies {
         op: Op,
@@ -65,17 +54,28 @@ pub struct Edge {
 /// A block: its instructions that are no phis, or its operations, and its edges.
 #[derive(Drop)]
 pub struct Block {
+    /// What it does, in order.
     pub rows: Items<Row>,
+    /// Where its terminator leads, in the order of its targets.
     pub edges: Items<Edge>,
 }
 
-/// A body: the types that its rows and edges name, what its parameters are handed to and how many there are, the phis or arguments
-/// of each block, and its blocks.
+/// The code of a body: the phis or arguments of each block, and its blocks.
+#[derive(Drop)]
+pub struct Code {
+    /// Of each block, by its number, what its phis or arguments are set in.
+    pub params: Items<Items<Slot>>,
+    /// The blocks by their numbers, the first of which is entered first.
+    pub blocks: Items<Block>,
+}
+
+/// A body: the types that its rows and edges name and the terms of their constants, what its parameters are handed to and how many
+/// there are, and its code.
 #[derive(Drop)]
 pub struct Body {
     pub types: TypeTable,
+    pub terms: TermTable,
     pub holder: u32,
     pub inputs: u32,
-    pub params: Items<Items<Slot>>,
-    pub blocks: Items<Block>,
+    pub code: Code,
 }

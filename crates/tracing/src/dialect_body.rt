@@ -8,17 +8,18 @@ ghost use Rattle.dialect_core.specs.Data.{DialectBlock, DialectOp, type_in};
 ghost use Rattle.meaning.specs.Setting.{Setting};
 ghost use Rattle.meaning.specs.Dialect as dialect;
 ghost use Rattle.llvm_core.specs.Data.{type_trees};
-ghost use Rattle.dialect_types.specs.Trees as trees;
-ghost use Rattle.tracing.specs.TypePlaces.{trees_in, ArePlacesOf, IsGrown};
-ghost use Rattle.tracing.specs.Bodies.{code_of, start_of, IsTypedBlock, IsBlock, AreBlocks};
+ghost use Rattle.tracing.specs.Table.{AreTyped};
+ghost use Rattle.tracing.specs.Contents.{contents_of};
+ghost use Rattle.tracing.specs.Tables.{AreGrown, AreTables, contents_in};
+ghost use Rattle.tracing.specs.Bodies.{code_of, start_of, IsKnownBlock, IsBlock, AreBlocks};
 ghost use Rattle.tracing.specs.Renamed.{renamed_block, renamed_code};
-ghost use Rattle.tracing.specs.DialectBodies.{slot_of, InContext, AreOpsIn};
+ghost use Rattle.tracing.specs.DialectBodies.{origin_of, slot_of, InContext, AreOpsIn};
 ghost use Rattle.tracing.specs.DialectEdges.{inputs_of, params_of, numbers_of, handed, edge_to, IsBlockIn, AreBlocksIn, is_op, body_ops};
 
-use crate::body::{Block, Body, Edge, Slot, Source};
+use crate::body::{Block, Body, Code, Edge, Slot, Source};
 use crate::dialect_rows::{rows, slot};
 use crate::places::{Places, places_of};
-use crate::type_places::TypePlaces;
+use crate::tables::Tables;
 use dialect_core::context::Context;
 use dialect_core::numbers::{BlockRef, FuncOp, OpRef};
 use dialect_core::ops::{OpKind, Successor, Value};
@@ -105,20 +106,20 @@ fn ops_of(alloc: Global, ctx: &Context, b: BlockRef) -> Result<Vec<OpRef>, Alloc
 
 fn block(
     alloc: Global,
-    types: &mut TypePlaces,
+    tables: &mut Tables,
     ctx: &Context,
     places: &Places,
     b: BlockRef,
 ) -> Result<Block, AllocError>
     requires within { b.0 < length ctx.now.blocks }
     requires block { (h : InContext ctx.now) × (y : DialectBlock) × IsBlockIn ctx.now h b y }
-    requires places { ArePlacesOf (trees.type_trees ctx.now.types) types.old }
-    ensures is { IfOk result (λ r. (setting : Setting) → (h : InContext ctx.now) → (y : DialectBlock) → IsBlockIn ctx.now h b y → places.now ≡ numbers_of h.function → IsBlock (trees_in types.new) (params_of h.function) r (renamed_block slot_of (dialect.typed_block setting (type_in ctx.now) h.function y))) }
-    ensures grown { OnOk result (IsGrown (trees.type_trees ctx.now.types) types.old types.new) }
+    requires tables { AreTables (origin_of ctx.now) tables.old }
+    ensures is { IfOk result (λ r. (setting : Setting) → (h : InContext ctx.now) → (y : DialectBlock) → IsBlockIn ctx.now h b y → places.now ≡ numbers_of h.function → IsBlock (contents_in tables.new) (params_of h.function) r (renamed_block slot_of (dialect.typed_block setting (type_in ctx.now) h.function y))) }
+    ensures grown { OnOk result (AreGrown (origin_of ctx.now) tables.old tables.new) }
 {
     let ops = ops_of(alloc, ctx, b)?;
     Ok(Block {
-        rows: rows(alloc, types, ctx, ops.as_slice())?,
+        rows: rows(alloc, tables, ctx, ops.as_slice())?,
         edges: edges(alloc, ctx, places, ops.as_slice())?,
     })
 }
@@ -126,19 +127,20 @@ fn block(
 /// The blocks of a function, of which this is the list.
 fn blocks(
     alloc: Global,
-    types: &mut TypePlaces,
+    tables: &mut Tables,
     ctx: &Context,
     places: &Places,
     list: &[BlockRef],
 ) -> Result<Items<Block>, AllocError>
     requires within { All (λ b. b.0 < length ctx.now.blocks) list.now }
     requires blocks { (h : InContext ctx.now) × AreBlocksIn ctx.now h list.now }
-    requires places { ArePlacesOf (trees.type_trees ctx.now.types) types.old }
-    ensures { IfOk result (λ bs. (setting : Setting) → (h : InContext ctx.now) → AreBlocksIn ctx.now h list.now → places.now ≡ numbers_of h.function → AreBlocks (trees_in types.new) (params_of h.function) bs (renamed_code slot_of (map (dialect.typed_block setting (type_in ctx.now) h.function) h.function.blocks))) }
+    requires tables { AreTables (origin_of ctx.now) tables.old }
+    ensures are { IfOk result (λ bs. (setting : Setting) → (h : InContext ctx.now) → AreBlocksIn ctx.now h list.now → places.now ≡ numbers_of h.function → AreBlocks (contents_in tables.new) (params_of h.function) bs (renamed_code slot_of (map (dialect.typed_block setting (type_in ctx.now) h.function) h.function.blocks))) }
+    ensures grown { OnOk result (AreGrown (origin_of ctx.now) tables.old tables.new) }
 {
     let mut blocks = Items::new(alloc);
     for b in list {
-        let made = block(alloc, types, ctx, places, *b)?;
+        let made = block(alloc, tables, ctx, places, *b)?;
         blocks.push(made)?;
     }
     Ok(blocks)
@@ -197,25 +199,27 @@ fn block_places(alloc: Global, list: &[BlockRef]) -> Result<Places, AllocError>
 /// The blocks of a function, of which this is the list, each there once.
 fn placed_blocks(
     alloc: Global,
-    types: &mut TypePlaces,
+    tables: &mut Tables,
     ctx: &Context,
     list: &[BlockRef],
 ) -> Result<Items<Block>, AllocError>
     requires within { All (λ b. b.0 < length ctx.now.blocks) list.now }
     requires once { IsDistinctList (map (λ b. b.0) list.now) }
     requires blocks { (h : InContext ctx.now) × AreBlocksIn ctx.now h list.now }
-    requires places { ArePlacesOf (trees.type_trees ctx.now.types) types.old }
-    ensures { IfOk result (λ bs. (setting : Setting) → (h : InContext ctx.now) → AreBlocksIn ctx.now h list.now → AreBlocks (trees_in types.new) (params_of h.function) bs (renamed_code slot_of (map (dialect.typed_block setting (type_in ctx.now) h.function) h.function.blocks))) }
+    requires tables { AreTables (origin_of ctx.now) tables.old }
+    ensures are { IfOk result (λ bs. (setting : Setting) → (h : InContext ctx.now) → AreBlocksIn ctx.now h list.now → AreBlocks (contents_in tables.new) (params_of h.function) bs (renamed_code slot_of (map (dialect.typed_block setting (type_in ctx.now) h.function) h.function.blocks))) }
+    ensures grown { OnOk result (AreGrown (origin_of ctx.now) tables.old tables.new) }
 {
     let places = block_places(alloc, list)?;
-    blocks(alloc, types, ctx, &places, list)
+    blocks(alloc, tables, ctx, &places, list)
 }
 
 /// The body of a well-formed function.
 pub fn dialect_body(alloc: Global, ctx: &Context, f: FuncOp) -> Result<Body, AllocError>
     requires { (h : InContext ctx.now) × (h.op ≡ f.0) }
-    ensures typed { IfOk result (λ body. (h : InContext ctx.now) → h.op ≡ f.0 → All (IsTypedBlock (length (type_trees body.types))) body.blocks) }
-    ensures code { IfOk result (λ body. (setting : Setting) → (h : InContext ctx.now) → h.op ≡ f.0 → code_of (type_trees body.types) body.params body.blocks ≡ renamed_code slot_of (map (dialect.typed_block setting (type_in ctx.now) h.function) h.function.blocks)) }
+    ensures known { IfOk result (λ body. (h : InContext ctx.now) → h.op ≡ f.0 → All (IsKnownBlock (contents_of body.types body.terms)) body.code.blocks) }
+    ensures code { IfOk result (λ body. (setting : Setting) → (h : InContext ctx.now) → h.op ≡ f.0 → code_of (contents_of body.types body.terms) body.code.params body.code.blocks ≡ renamed_code slot_of (map (dialect.typed_block setting (type_in ctx.now) h.function) h.function.blocks)) }
+    ensures typed { IfOk result (λ body. AreTyped (length (type_trees body.types)) body.terms) }
     ensures start { IfOk result (λ body. (h : InContext ctx.now) → h.op ≡ f.0 → (v : values.Value) → start_of body.holder body.inputs (slot_of v) ≡ dialect.start h.function.blocks v) }
 {
     let list = ctx.op_blocks(f.0);
@@ -224,13 +228,14 @@ pub fn dialect_body(alloc: Global, ctx: &Context, f: FuncOp) -> Result<Body, All
     let entry = list[0];
     let inputs = arg_count(ctx, entry)?;
     let params = params(alloc, ctx, list)?;
-    let mut types = TypePlaces::new(alloc);
-    let blocks = placed_blocks(alloc, &mut types, ctx, list)?;
+    let mut tables = Tables::new(alloc);
+    let blocks = placed_blocks(alloc, &mut tables, ctx, list)?;
+    let Tables { types, terms, .. } = tables;
     Ok(Body {
         types: types.into_table(),
+        terms,
         holder: entry.0,
         inputs,
-        params,
-        blocks,
+        code: Code { params, blocks },
     })
 }

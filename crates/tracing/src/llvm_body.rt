@@ -7,15 +7,17 @@ ghost use Rattle.llvm_core.specs.Edges.{targets as leads_to};
 ghost use Rattle.llvm_core.specs.Data as lists;
 ghost use Rattle.llvm_core.specs.Data.{Placed, targets, trees_of, type_trees};
 ghost use Rattle.meaning.specs.Llvm as llvm;
-ghost use Rattle.tracing.specs.TypePlaces.{trees_in, ArePlacesOf, IsGrown};
-ghost use Rattle.tracing.specs.Bodies.{code_of, start_of, IsTypedBlock, IsBlock, AreBlocks};
+ghost use Rattle.tracing.specs.Table.{AreTyped};
+ghost use Rattle.tracing.specs.Contents.{contents_of};
+ghost use Rattle.tracing.specs.Tables.{AreGrown, AreTables, contents_in};
+ghost use Rattle.tracing.specs.Bodies.{code_of, start_of, IsKnownBlock, IsBlock, AreBlocks};
 ghost use Rattle.tracing.specs.Renamed.{renamed_block, renamed_code};
-ghost use Rattle.tracing.specs.LlvmBodies.{setting_in, slot_of, InChecked, data_in, ArePlacedIn, IsIndex, IsBlockIn, slots_of, taken_from, phis_at, params_in, edge_to};
+ghost use Rattle.tracing.specs.LlvmBodies.{setting_in, slot_of, origin_in, InChecked, data_in, ArePlacedIn, IsIndex, IsBlockIn, slots_of, taken_from, phis_at, params_in, edge_to};
 
-use crate::body::{Block, Body, Edge, Slot, Source};
+use crate::body::{Block, Body, Code, Edge, Slot, Source};
 use crate::llvm_index::{Index, Phi, index_of};
 use crate::llvm_rows::rows;
-use crate::type_places::TypePlaces;
+use crate::tables::Tables;
 use llvm_core::code::LLVMInst;
 use llvm_core::module::LLVMModule;
 use llvm_core::numbers::{LLVMBasicBlock, LLVMFunction, LLVMInstRef};
@@ -105,20 +107,20 @@ fn block_edges(
 
 fn block(
     alloc: Global,
-    types: &mut TypePlaces,
+    tables: &mut Tables,
     m: &LLVMModule,
     index: &Index,
     b: LLVMBasicBlock,
 ) -> Result<Block, AllocError>
     requires within { b.0 < length m.now.blocks }
     requires block { (h : InChecked m.now) × (y : lists.Block) × IsBlockIn m.now h b y }
-    requires places { ArePlacesOf (trees_of m.now).types types.old }
-    ensures is { IfOk result (λ r. (h : InChecked m.now) → (y : lists.Block) → IsBlockIn m.now h b y → IsIndex m.now h (trees_in types.old) index.now → IsBlock (trees_in types.new) (params_in index.now) r (renamed_block slot_of (llvm.block (setting_in m.now) (data_in m.now h) y))) }
-    ensures grown { OnOk result (IsGrown (trees_of m.now).types types.old types.new) }
+    requires tables { AreTables (origin_in m.now) tables.old }
+    ensures is { IfOk result (λ r. (h : InChecked m.now) → (y : lists.Block) → IsBlockIn m.now h b y → IsIndex m.now h (contents_in tables.old) index.now → IsBlock (contents_in tables.new) (params_in index.now) r (renamed_block slot_of (llvm.block (setting_in m.now) (data_in m.now h) y))) }
+    ensures grown { OnOk result (AreGrown (origin_in m.now) tables.old tables.new) }
 {
     let insts = m.instructions(b);
     Ok(Block {
-        rows: rows(alloc, types, m, insts)?,
+        rows: rows(alloc, tables, m, insts)?,
         edges: block_edges(alloc, m, index, b.0, insts)?,
     })
 }
@@ -126,18 +128,19 @@ fn block(
 /// The blocks of a function.
 fn blocks(
     alloc: Global,
-    types: &mut TypePlaces,
+    tables: &mut Tables,
     m: &LLVMModule,
     index: &Index,
     f: LLVMFunction,
 ) -> Result<Items<Block>, AllocError>
     requires here { (h : InChecked m.now) × (h.number ≡ f.0) }
-    requires places { ArePlacesOf (trees_of m.now).types types.old }
-    ensures { IfOk result (λ bs. (h : InChecked m.now) → h.number ≡ f.0 → IsIndex m.now h (trees_in types.old) index.now → AreBlocks (trees_in types.new) (params_in index.now) bs (renamed_code slot_of (map (llvm.block (setting_in m.now) (data_in m.now h)) (data_in m.now h).blocks))) }
+    requires tables { AreTables (origin_in m.now) tables.old }
+    ensures are { IfOk result (λ bs. (h : InChecked m.now) → h.number ≡ f.0 → IsIndex m.now h (contents_in tables.old) index.now → AreBlocks (contents_in tables.new) (params_in index.now) bs (renamed_code slot_of (map (llvm.block (setting_in m.now) (data_in m.now h)) (data_in m.now h).blocks))) }
+    ensures grown { OnOk result (AreGrown (origin_in m.now) tables.old tables.new) }
 {
     let mut blocks = Items::new(alloc);
     for b in m.blocks(f) {
-        let made = block(alloc, types, m, index, *b)?;
+        let made = block(alloc, tables, m, index, *b)?;
         blocks.push(made)?;
     }
     Ok(blocks)
@@ -190,39 +193,42 @@ fn inputs(m: &LLVMModule, f: LLVMFunction) -> Result<u32, AllocError>
 /// The body of a function of so many parameters, over its index, whose types have their places.
 fn body_over(
     alloc: Global,
-    types: TypePlaces,
+    tables: Tables,
     m: &LLVMModule,
     f: LLVMFunction,
     inputs: u32,
     index: &Index,
 ) -> Result<Body, AllocError>
     requires here { (h : InChecked m.now) × (h.number ≡ f.0) }
-    requires places { ArePlacesOf (trees_of m.now).types types }
-    ensures code { IfOk result (λ body. (h : InChecked m.now) → h.number ≡ f.0 → IsIndex m.now h (trees_in types) index.now → code_of (type_trees body.types) body.params body.blocks ≡ renamed_code slot_of (map (llvm.block (setting_in m.now) (data_in m.now h)) (data_in m.now h).blocks)) }
-    ensures typed { IfOk result (λ body. (h : InChecked m.now) → h.number ≡ f.0 → IsIndex m.now h (trees_in types) index.now → All (IsTypedBlock (length (type_trees body.types))) body.blocks) }
+    requires tables { AreTables (origin_in m.now) tables }
+    ensures code { IfOk result (λ body. (h : InChecked m.now) → h.number ≡ f.0 → IsIndex m.now h (contents_in tables) index.now → code_of (contents_of body.types body.terms) body.code.params body.code.blocks ≡ renamed_code slot_of (map (llvm.block (setting_in m.now) (data_in m.now h)) (data_in m.now h).blocks)) }
+    ensures known { IfOk result (λ body. (h : InChecked m.now) → h.number ≡ f.0 → IsIndex m.now h (contents_in tables) index.now → All (IsKnownBlock (contents_of body.types body.terms)) body.code.blocks) }
+    ensures typed { IfOk result (λ body. AreTyped (length (type_trees body.types)) body.terms) }
     ensures start { IfOk result (λ body. (h : InChecked m.now) → h.number ≡ f.0 → inputs ≡ llvm.arity (data_in m.now h).type → (k : llvm.Key) → start_of body.holder body.inputs (slot_of k) ≡ llvm.start (data_in m.now h) k) }
 {
     let params = params(alloc, index)?;
-    let mut types = types;
-    let blocks = blocks(alloc, &mut types, m, index, f)?;
+    let mut tables = tables;
+    let blocks = blocks(alloc, &mut tables, m, index, f)?;
+    let Tables { types, terms, .. } = tables;
     Ok(Body {
         types: types.into_table(),
+        terms,
         holder: f.0,
         inputs,
-        params,
-        blocks,
+        code: Code { params, blocks },
     })
 }
 
 /// The body of a function of a checked module.
 pub fn llvm_body(alloc: Global, m: &LLVMModule, f: LLVMFunction) -> Result<Body, AllocError>
     requires { (h : InChecked m.now) × (h.number ≡ f.0) }
-    ensures code { IfOk result (λ body. (h : InChecked m.now) → h.number ≡ f.0 → code_of (type_trees body.types) body.params body.blocks ≡ renamed_code slot_of (map (llvm.block (setting_in m.now) (data_in m.now h)) (data_in m.now h).blocks)) }
-    ensures typed { IfOk result (λ body. (h : InChecked m.now) → h.number ≡ f.0 → All (IsTypedBlock (length (type_trees body.types))) body.blocks) }
+    ensures code { IfOk result (λ body. (h : InChecked m.now) → h.number ≡ f.0 → code_of (contents_of body.types body.terms) body.code.params body.code.blocks ≡ renamed_code slot_of (map (llvm.block (setting_in m.now) (data_in m.now h)) (data_in m.now h).blocks)) }
+    ensures known { IfOk result (λ body. (h : InChecked m.now) → h.number ≡ f.0 → All (IsKnownBlock (contents_of body.types body.terms)) body.code.blocks) }
+    ensures typed { IfOk result (λ body. AreTyped (length (type_trees body.types)) body.terms) }
     ensures start { IfOk result (λ body. (h : InChecked m.now) → h.number ≡ f.0 → (k : llvm.Key) → start_of body.holder body.inputs (slot_of k) ≡ llvm.start (data_in m.now h) k) }
 {
     let inputs = inputs(m, f)?;
-    let mut types = TypePlaces::new(alloc);
-    let index = index_of(alloc, &mut types, m, f)?;
-    body_over(alloc, types, m, f, inputs, &index)
+    let mut tables = Tables::new(alloc);
+    let index = index_of(alloc, &mut tables, m, f)?;
+    body_over(alloc, tables, m, f, inputs, &index)
 }

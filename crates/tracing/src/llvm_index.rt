@@ -10,16 +10,16 @@ ghost use Rattle.llvm_core.specs.Data.{Placed, entry_of, trees_of};
 ghost use Rattle.llvm_core.specs.Form as form;
 ghost use Rattle.meaning.specs.Llvm as llvm;
 ghost use Rattle.meaning.specs.Machine as machine;
-ghost use Rattle.tracing.specs.Types.{Lasts};
-ghost use Rattle.tracing.specs.TypePlaces.{trees_in, ArePlacesOf, IsGrown};
+ghost use Rattle.tracing.specs.Contents.{Lasts};
+ghost use Rattle.tracing.specs.Tables.{AreGrown, AreTables, contents_in};
 ghost use Rattle.tracing.specs.Bodies.{IsGiven};
 ghost use Rattle.tracing.specs.Renamed.{renamed};
-ghost use Rattle.tracing.specs.LlvmBodies.{setting_in, slot_of, first_of, operand_in, InChecked, data_in, ArePlacedIn, IsPlacedIn, ArePhis, AreBlockPhis, IsIndex};
+ghost use Rattle.tracing.specs.LlvmBodies.{setting_in, slot_of, first_of, origin_in, operand_in, InChecked, data_in, ArePlacedIn, IsPlacedIn, ArePhis, AreBlockPhis, IsIndex};
 
 use crate::body::{Slot, Source};
 use crate::llvm_rows::source;
 use crate::places::{Places, places_of};
-use crate::type_places::TypePlaces;
+use crate::tables::Tables;
 use indexmap::IndexMap;
 use llvm_core::code::{LLVMInst, PhiEntry};
 use llvm_core::module::LLVMModule;
@@ -44,21 +44,21 @@ pub struct Index {
 /// Notes an entry of a phi, unless there is an earlier one for its block.
 fn note_entry(
     alloc: Global,
-    types: &mut TypePlaces,
+    tables: &mut Tables,
     m: &LLVMModule,
     incoming: &mut IndexMap<u32, Source>,
     entry: PhiEntry,
 ) -> Result<(), AllocError>
     requires sound { IsModule m.now }
     requires entry { IsEntry m.now entry }
-    requires places { ArePlacesOf (trees_of m.now).types types.old }
-    ensures takes { OnOk result ((from : ℕ) → (x : Option (machine.Operand Slot)) → IsGiven (trees_in types.old) (get nat_eq incoming.old from) x → IsGiven (trees_in types.new) (get nat_eq incoming.new from) (first_of x (if nat_eq entry.block.0 from then Some (operand_in m.now entry.value) else None))) }
-    ensures grown { OnOk result (IsGrown (trees_of m.now).types types.old types.new) }
+    requires tables { AreTables (origin_in m.now) tables.old }
+    ensures takes { OnOk result ((from : ℕ) → (x : Option (machine.Operand Slot)) → IsGiven (contents_in tables.old) (get nat_eq incoming.old from) x → IsGiven (contents_in tables.new) (get nat_eq incoming.new from) (first_of x (if nat_eq entry.block.0 from then Some (operand_in m.now entry.value) else None))) }
+    ensures grown { OnOk result (AreGrown (origin_in m.now) tables.old tables.new) }
 {
     if incoming.contains_key(&entry.block.0) {
         return Ok(());
     }
-    let source = source(alloc, types, m, entry.value)?;
+    let source = source(alloc, tables, m, entry.value)?;
     incoming.insert(entry.block.0, source)?;
     Ok(())
 }
@@ -66,19 +66,19 @@ fn note_entry(
 /// What a phi with these entries takes for each block that an edge comes from.
 fn incoming(
     alloc: Global,
-    types: &mut TypePlaces,
+    tables: &mut Tables,
     m: &LLVMModule,
     entries: &[PhiEntry],
 ) -> Result<IndexMap<u32, Source>, AllocError>
     requires sound { IsModule m.now }
     requires entries { All (IsEntry m.now) entries.now }
-    requires places { ArePlacesOf (trees_of m.now).types types.old }
-    ensures takes { IfOk result (λ incoming. (from : ℕ) → IsGiven (trees_in types.new) (get nat_eq incoming from) (option_map (renamed slot_of) (llvm.entry_for (setting_in m.now) from (map (entry_of (trees_of m.now)) entries.now)))) }
-    ensures grown { OnOk result (IsGrown (trees_of m.now).types types.old types.new) }
+    requires tables { AreTables (origin_in m.now) tables.old }
+    ensures takes { IfOk result (λ incoming. (from : ℕ) → IsGiven (contents_in tables.new) (get nat_eq incoming from) (option_map (renamed slot_of) (llvm.entry_for (setting_in m.now) from (map (entry_of (trees_of m.now)) entries.now)))) }
+    ensures grown { OnOk result (AreGrown (origin_in m.now) tables.old tables.new) }
 {
     let mut incoming = IndexMap::new(alloc);
     for entry in entries {
-        note_entry(alloc, types, m, &mut incoming, *entry)?;
+        note_entry(alloc, tables, m, &mut incoming, *entry)?;
     }
     Ok(incoming)
 }
@@ -86,19 +86,19 @@ fn incoming(
 /// Appends a phi, where the instruction is one.
 fn push_phi(
     alloc: Global,
-    types: &mut TypePlaces,
+    tables: &mut Tables,
     m: &LLVMModule,
     i: LLVMInstRef,
     phis: &mut Items<Phi>,
 ) -> Result<(), AllocError>
     requires here { (h : InChecked m.now) × (b : ℕ) × (p : Placed) × IsPlacedIn m.now h b i p }
-    requires places { ArePlacesOf (trees_of m.now).types types.old }
-    ensures phis { OnOk result ((h : InChecked m.now) → (b : ℕ) → (p : Placed) → IsPlacedIn m.now h b i p → (xs : List Placed) → ArePhis m.now (trees_in types.old) phis.old xs → ArePhis m.now (trees_in types.new) phis.new (xs ++ filter form.is_phi (p ∷ []))) }
-    ensures grown { OnOk result (IsGrown (trees_of m.now).types types.old types.new) }
+    requires tables { AreTables (origin_in m.now) tables.old }
+    ensures phis { OnOk result ((h : InChecked m.now) → (b : ℕ) → (p : Placed) → IsPlacedIn m.now h b i p → (xs : List Placed) → ArePhis m.now (contents_in tables.old) phis.old xs → ArePhis m.now (contents_in tables.new) phis.new (xs ++ filter form.is_phi (p ∷ []))) }
+    ensures grown { OnOk result (AreGrown (origin_in m.now) tables.old tables.new) }
 {
     match m.inst(i) {
         LLVMInst::Phi(_, entries) => {
-            let incoming = incoming(alloc, types, m, entries.as_slice())?;
+            let incoming = incoming(alloc, tables, m, entries.as_slice())?;
             phis.push(Phi {
                 slot: Slot::Result(i.0),
                 incoming,
@@ -111,18 +111,18 @@ fn push_phi(
 /// The phis among instructions.
 fn phis(
     alloc: Global,
-    types: &mut TypePlaces,
+    tables: &mut Tables,
     m: &LLVMModule,
     insts: &[LLVMInstRef],
 ) -> Result<Items<Phi>, AllocError>
     requires here { (h : InChecked m.now) × (b : ℕ) × (ps : List Placed) × ArePlacedIn m.now h b insts.now ps }
-    requires places { ArePlacesOf (trees_of m.now).types types.old }
-    ensures phis { IfOk result (λ xs. (h : InChecked m.now) → (b : ℕ) → (ps : List Placed) → ArePlacedIn m.now h b insts.now ps → ArePhis m.now (trees_in types.new) xs (filter form.is_phi ps)) }
-    ensures grown { OnOk result (IsGrown (trees_of m.now).types types.old types.new) }
+    requires tables { AreTables (origin_in m.now) tables.old }
+    ensures phis { IfOk result (λ xs. (h : InChecked m.now) → (b : ℕ) → (ps : List Placed) → ArePlacedIn m.now h b insts.now ps → ArePhis m.now (contents_in tables.new) xs (filter form.is_phi ps)) }
+    ensures grown { OnOk result (AreGrown (origin_in m.now) tables.old tables.new) }
 {
     let mut phis = Items::new(alloc);
     for i in insts {
-        push_phi(alloc, types, m, *i, &mut phis)?;
+        push_phi(alloc, tables, m, *i, &mut phis)?;
     }
     Ok(phis)
 }
@@ -130,18 +130,18 @@ fn phis(
 /// The phis of each block of a function.
 fn all_phis(
     alloc: Global,
-    types: &mut TypePlaces,
+    tables: &mut Tables,
     m: &LLVMModule,
     f: LLVMFunction,
 ) -> Result<Items<Items<Phi>>, AllocError>
     requires here { (h : InChecked m.now) × (h.number ≡ f.0) }
-    requires places { ArePlacesOf (trees_of m.now).types types.old }
-    ensures phis { IfOk result (λ all. (h : InChecked m.now) → h.number ≡ f.0 → Lasts (trees_in types.new) (λ trees. AreBlockPhis m.now trees all (data_in m.now h).blocks)) }
-    ensures grown { OnOk result (IsGrown (trees_of m.now).types types.old types.new) }
+    requires tables { AreTables (origin_in m.now) tables.old }
+    ensures phis { IfOk result (λ all. (h : InChecked m.now) → h.number ≡ f.0 → Lasts (contents_in tables.new) (λ now. AreBlockPhis m.now now all (data_in m.now h).blocks)) }
+    ensures grown { OnOk result (AreGrown (origin_in m.now) tables.old tables.new) }
 {
     let mut all = Items::new(alloc);
     for b in m.blocks(f) {
-        let block_phis = phis(alloc, types, m, m.instructions(*b))?;
+        let block_phis = phis(alloc, tables, m, m.instructions(*b))?;
         all.push(block_phis)?;
     }
     Ok(all)
@@ -162,17 +162,17 @@ fn block_places(alloc: Global, blocks: &[LLVMBasicBlock]) -> Result<Places, Allo
 /// The index of a function, where the types of what its phis take get their places.
 pub fn index_of(
     alloc: Global,
-    types: &mut TypePlaces,
+    tables: &mut Tables,
     m: &LLVMModule,
     f: LLVMFunction,
 ) -> Result<Index, AllocError>
     requires here { (h : InChecked m.now) × (h.number ≡ f.0) }
-    requires places { ArePlacesOf (trees_of m.now).types types.old }
-    ensures is { IfOk result (λ index. (h : InChecked m.now) → h.number ≡ f.0 → IsIndex m.now h (trees_in types.new) index) }
-    ensures grown { OnOk result (IsGrown (trees_of m.now).types types.old types.new) }
+    requires tables { AreTables (origin_in m.now) tables.old }
+    ensures is { IfOk result (λ index. (h : InChecked m.now) → h.number ≡ f.0 → IsIndex m.now h (contents_in tables.new) index) }
+    ensures grown { OnOk result (AreGrown (origin_in m.now) tables.old tables.new) }
 {
     Ok(Index {
         places: block_places(alloc, m.blocks(f))?,
-        phis: all_phis(alloc, types, m, f)?,
+        phis: all_phis(alloc, tables, m, f)?,
     })
 }

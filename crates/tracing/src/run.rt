@@ -8,12 +8,13 @@ ghost use Rattle.meaning.specs.Machine as machine;
 ghost use Rattle.meaning.specs.Machine.{State};
 ghost use Rattle.llvm_core.specs.Data.{TypeTree, type_at, type_trees};
 ghost use Rattle.tracing.specs.Types.{HasTypesBelow};
-ghost use Rattle.tracing.specs.Table.{HasPartsBelow, HasTypeBelow, node_term};
+ghost use Rattle.tracing.specs.Table.{AreTyped, HasPartsBelow, HasTypeBelow, node_term};
+ghost use Rattle.tracing.specs.Contents.{Contents, contents_of, over};
 ghost use Rattle.tracing.specs.Table as table;
-ghost use Rattle.tracing.specs.Bodies.{same_slot, held_term, source_of, action_of, row_of, moves_from, given, params_at, code_of, start_of, IsTypedHeld, IsTypedSource, IsTypedGiven, IsTypedRow, IsTypedEdge, IsTypedBlock};
+ghost use Rattle.tracing.specs.Bodies.{same_slot, source_of, action_of, row_of, moves_from, given, params_at, code_of, start_of, IsKnownSource, IsKnownGiven, IsKnownRow, IsKnownEdge, IsKnownBlock};
 ghost use Rattle.tracing.specs.Runs.{is_built, with_each, IsAt, IsRunOver, Names, AllNamed, Keeps, IsJumped, ShowsItem, HasTables, items_of};
 
-use crate::body::{Action, Block, Body, Edge, Held, Row, Slot, Source};
+use crate::body::{Action, Block, Body, Code, Edge, Row, Slot, Source};
 use crate::table::{TermNode, TermTable};
 use crate::trace::{Trace, TraceItem, Types};
 use indexmap::IndexMap;
@@ -36,7 +37,7 @@ pub struct Run {
 /// The place of a term that the table may not have yet.
 fn intern(run: &mut Run, node: TermNode) -> Result<u32, AllocError>
     requires { HasPartsBelow (length run.old.table) node }
-    ensures at { IfOk result (λ k. (trees : List TypeTree) → (s : State Slot) → HasTypeBelow (length trees) node → IsAt trees run.old s → IsAt trees run.new s) }
+    ensures at { IfOk result (λ k. (c : Contents) → (s : State Slot) → HasTypeBelow (length c.types) node → IsAt c run.old s → IsAt c run.new s) }
     ensures named { IfOk result (λ k. (trees : List TypeTree) → Names trees run.new.table k (node_term trees (table.terms trees run.old.table) node)) }
     ensures kept { OnOk result ((trees : List TypeTree) → Keeps trees run.old.table run.new.table) }
 {
@@ -46,7 +47,7 @@ fn intern(run: &mut Run, node: TermNode) -> Result<u32, AllocError>
 /// Gives a value the term at a place.
 fn set(run: &mut Run, slot: Slot, place: u32) -> Result<(), AllocError>
     ensures table { OnOk result (run.new.table ≡ run.old.table) }
-    ensures at { OnOk result ((trees : List TypeTree) → (s : State Slot) → (t : Term) → IsAt trees run.old s → Names trees run.old.table place t → IsAt trees run.new (machine.set_in Slot same_slot s slot t)) }
+    ensures at { OnOk result ((c : Contents) → (s : State Slot) → (t : Term) → IsAt c run.old s → Names c.types run.old.table place t → IsAt c run.new (machine.set_in Slot same_slot s slot t)) }
 {
     run.env.insert(slot, place)?;
     Ok(())
@@ -55,7 +56,7 @@ fn set(run: &mut Run, slot: Slot, place: u32) -> Result<(), AllocError>
 /// Shows an item.
 fn note(run: &mut Run, item: TraceItem) -> Result<(), AllocError>
     ensures table { OnOk result (run.new.table ≡ run.old.table) }
-    ensures at { OnOk result ((trees : List TypeTree) → (s : State Slot) → (i : machine.Item) → IsAt trees run.old s → ShowsItem trees run.old.table item i → IsAt trees run.new (machine.shows Slot same_slot s i)) }
+    ensures at { OnOk result ((c : Contents) → (s : State Slot) → (i : machine.Item) → IsAt c run.old s → ShowsItem c.types run.old.table item i → IsAt c run.new (machine.shows Slot same_slot s i)) }
 {
     run.items.push(item)?;
     Ok(())
@@ -63,7 +64,7 @@ fn note(run: &mut Run, item: TraceItem) -> Result<(), AllocError>
 
 /// The place of a value's term, which is unset where it has none.
 fn read_slot(run: &mut Run, slot: Slot) -> Result<u32, AllocError>
-    ensures at { IfOk result (λ k. (trees : List TypeTree) → (s : State Slot) → IsAt trees run.old s → IsAt trees run.new s × Names trees run.new.table k (s.env slot)) }
+    ensures at { IfOk result (λ k. (c : Contents) → (s : State Slot) → IsAt c run.old s → IsAt c run.new s × Names c.types run.new.table k (s.env slot)) }
     ensures kept { OnOk result ((trees : List TypeTree) → Keeps trees run.old.table run.new.table) }
 {
     let found = run.env.get(&slot).copied();
@@ -73,42 +74,21 @@ fn read_slot(run: &mut Run, slot: Slot) -> Result<u32, AllocError>
     }
 }
 
-/// The node of a constant's term.
-fn node_of(held: Held) -> TermNode
-    ensures parts { (n : ℕ) → HasPartsBelow n result }
-    ensures typed { (n : ℕ) → IsTypedHeld n held → HasTypeBelow n result }
-    ensures term { (trees : List TypeTree) → (ts : List Term) → node_term trees ts result ≡ held_term trees held }
-{
-    match held {
-        Held::Int(width, value) => TermNode::Int(width, value),
-        Held::Filled(fill, ty) => TermNode::Filled(fill, ty),
-        Held::Unset => TermNode::Unset,
-    }
-}
-
-/// The place of a constant's term.
-fn read_held(run: &mut Run, held: Held) -> Result<u32, AllocError>
-    ensures at { IfOk result (λ k. (trees : List TypeTree) → (s : State Slot) → IsTypedHeld (length trees) held → IsAt trees run.old s → IsAt trees run.new s × Names trees run.new.table k (held_term trees held)) }
-    ensures kept { OnOk result ((trees : List TypeTree) → Keeps trees run.old.table run.new.table) }
-{
-    intern(run, node_of(held))
-}
-
 /// The place of an operand's term.
 fn read(run: &mut Run, source: Source) -> Result<u32, AllocError>
-    ensures at { IfOk result (λ k. (trees : List TypeTree) → (s : State Slot) → IsTypedSource (length trees) source → IsAt trees run.old s → IsAt trees run.new s × Names trees run.new.table k (machine.read s.env (source_of trees source))) }
+    ensures at { IfOk result (λ k. (c : Contents) → (s : State Slot) → IsKnownSource c source → IsAt c run.old s → IsAt c run.new s × Names c.types run.new.table k (machine.read s.env (source_of c.terms source))) }
     ensures kept { OnOk result ((trees : List TypeTree) → Keeps trees run.old.table run.new.table) }
 {
     match source {
         Source::At(slot) => read_slot(run, slot),
-        Source::Fixed(held) => read_held(run, held),
+        Source::Fixed(place) => Ok(place),
     }
 }
 
 /// The places of the terms of operands.
 fn read_all(run: &mut Run, sources: &[Source]) -> Result<Vec<u32>, AllocError>
-    requires { IsRunOver (λ n. All (IsTypedSource n) sources.now) run.old }
-    ensures at { IfOk result (λ ks. (trees : List TypeTree) → (s : State Slot) → All (IsTypedSource (length trees)) sources.now → IsAt trees run.old s → IsAt trees run.new s × AllNamed trees run.new.table ks.items (map (machine.read s.env) (map (source_of trees) sources.now))) }
+    requires { IsRunOver (λ c. All (IsKnownSource c) sources.now) run.old }
+    ensures at { IfOk result (λ ks. (c : Contents) → (s : State Slot) → All (IsKnownSource c) sources.now → IsAt c run.old s → IsAt c run.new s × AllNamed c.types run.new.table ks.items (map (machine.read s.env) (map (source_of c.terms) sources.now))) }
     ensures within { IfOk result (λ ks. All (λ k. k < length run.new.table) ks.items) }
 {
     let mut places = Vec::new(run.alloc);
@@ -120,10 +100,9 @@ fn read_all(run: &mut Run, sources: &[Source]) -> Result<Vec<u32>, AllocError>
 }
 
 /// A value holds a constant.
-fn hold(run: &mut Run, slot: Slot, held: Held) -> Result<(), AllocError>
-    ensures { OnOk result ((trees : List TypeTree) → (s : State Slot) → IsTypedHeld (length trees) held → IsAt trees run.old s → IsAt trees run.new (machine.set_in Slot same_slot s slot (held_term trees held))) }
+fn hold(run: &mut Run, slot: Slot, place: u32) -> Result<(), AllocError>
+    ensures { OnOk result ((c : Contents) → (s : State Slot) → place < length c.terms → IsAt c run.old s → IsAt c run.new (machine.set_in Slot same_slot s slot (table.term_at c.terms place))) }
 {
-    let place = read_held(run, held)?;
     set(run, slot, place)
 }
 
@@ -136,8 +115,8 @@ fn build(
     places: Vec<u32>,
 ) -> Result<(), AllocError>
     requires { All (λ k. k < length run.old.table) places.items }
-    ensures { OnOk result ((trees : List TypeTree) → (s : State Slot) → (ts : List Term) → HasTypesBelow (length trees) types.now → IsAt trees run.old s → AllNamed trees run.old.table places.items ts
-        → IsAt trees run.new (machine.set_in Slot same_slot s slot (terms.Expr op (type_at trees types.now.result) (terms.terms_of ts)))) }
+    ensures { OnOk result ((c : Contents) → (s : State Slot) → (ts : List Term) → HasTypesBelow (length c.types) types.now → IsAt c run.old s → AllNamed c.types run.old.table places.items ts
+        → IsAt c run.new (machine.set_in Slot same_slot s slot (terms.Expr op (type_at c.types types.now.result) (terms.terms_of ts)))) }
 {
     let node = TermNode::Expr {
         op,
@@ -166,8 +145,8 @@ fn show(
     types: &Types,
     places: Vec<u32>,
 ) -> Result<(), AllocError>
-    ensures { OnOk result ((trees : List TypeTree) → (s : State Slot) → (ts : List Term) → HasTypesBelow (length trees) types.now → IsAt trees run.old s → AllNamed trees run.old.table places.items ts
-        → IsAt trees run.new (machine.answered Slot same_slot s slot (machine.Event op (type_at trees types.now.result) (map (type_at trees) types.now.operands) ts))) }
+    ensures { OnOk result ((c : Contents) → (s : State Slot) → (ts : List Term) → HasTypesBelow (length c.types) types.now → IsAt c run.old s → AllNamed c.types run.old.table places.items ts
+        → IsAt c run.new (machine.answered Slot same_slot s slot (machine.Event op (type_at c.types types.now.result) (map (type_at c.types) types.now.operands) ts))) }
 {
     let count = run.count;
     if count >= u32::MAX {
@@ -197,11 +176,11 @@ fn is_silent(op: Op) -> bool
 
 /// A row.
 fn apply(run: &mut Run, row: &Row) -> Result<(), AllocError>
-    requires { IsRunOver (λ n. IsTypedRow n row.now) run.old }
-    ensures { OnOk result ((trees : List TypeTree) → (s : State Slot) → IsTypedRow (length trees) row.now → IsAt trees run.old s → IsAt trees run.new (machine.apply Slot same_slot s row.now.result (action_of trees row.now.action))) }
+    requires { IsRunOver (λ c. IsKnownRow c row.now) run.old }
+    ensures { OnOk result ((c : Contents) → (s : State Slot) → IsKnownRow c row.now → IsAt c run.old s → IsAt c run.new (machine.apply Slot same_slot s row.now.result (action_of c row.now.action))) }
 {
     match &row.action {
-        Action::Holds(held) => hold(run, row.result, *held),
+        Action::Holds(place) => hold(run, row.result, *place),
         Action::Applies {
             op,
             types,
@@ -219,8 +198,8 @@ fn apply(run: &mut Run, row: &Row) -> Result<(), AllocError>
 
 /// The rows of a block.
 fn straight(run: &mut Run, rows: &[Row]) -> Result<(), AllocError>
-    requires { IsRunOver (λ n. All (IsTypedRow n) rows.now) run.old }
-    ensures { OnOk result ((trees : List TypeTree) → (s : State Slot) → All (IsTypedRow (length trees)) rows.now → IsAt trees run.old s → IsAt trees run.new (machine.straight Slot same_slot s (map (row_of trees) rows.now))) }
+    requires { IsRunOver (λ c. All (IsKnownRow c) rows.now) run.old }
+    ensures { OnOk result ((c : Contents) → (s : State Slot) → All (IsKnownRow c) rows.now → IsAt c run.old s → IsAt c run.new (machine.straight Slot same_slot s (map (row_of c) rows.now))) }
 {
     for row in rows {
         apply(run, row)?;
@@ -230,8 +209,8 @@ fn straight(run: &mut Run, rows: &[Row]) -> Result<(), AllocError>
 
 /// What an edge hands to the phi or argument at a place, None where it hands nothing.
 fn given_at(sources: &[Option<Source>], at: usize) -> Option<Source>
-    ensures source { (trees : List TypeTree) → option_map (source_of trees) result ≡ given trees sources.now at }
-    ensures typed { (n : ℕ) → All (IsTypedGiven n) sources.now → IsTypedGiven n result }
+    ensures source { (ts : List Term) → option_map (source_of ts) result ≡ given ts sources.now at }
+    ensures known { (c : Contents) → All (IsKnownGiven c) sources.now → IsKnownGiven c result }
 {
     match sources.get(at) {
         Some(source) => *source,
@@ -241,7 +220,7 @@ fn given_at(sources: &[Option<Source>], at: usize) -> Option<Source>
 
 /// The place of what an edge hands to a phi or argument, which is unset where it hands nothing.
 fn read_given(run: &mut Run, source: Option<Source>) -> Result<u32, AllocError>
-    ensures at { IfOk result (λ k. (trees : List TypeTree) → (s : State Slot) → IsTypedGiven (length trees) source → IsAt trees run.old s → IsAt trees run.new s × Names trees run.new.table k (machine.read_move s.env (option_map (source_of trees) source))) }
+    ensures at { IfOk result (λ k. (c : Contents) → (s : State Slot) → IsKnownGiven c source → IsAt c run.old s → IsAt c run.new s × Names c.types run.new.table k (machine.read_move s.env (option_map (source_of c.terms) source))) }
     ensures kept { OnOk result ((trees : List TypeTree) → Keeps trees run.old.table run.new.table) }
 {
     match source {
@@ -256,7 +235,7 @@ fn read_moves(
     params: &[Slot],
     sources: &[Option<Source>],
 ) -> Result<Vec<u32>, AllocError>
-    ensures at { IfOk result (λ ks. (trees : List TypeTree) → (s : State Slot) → All (IsTypedGiven (length trees)) sources.now → IsAt trees run.old s → IsAt trees run.new s × AllNamed trees run.new.table ks.items (map (λ m. machine.read_move s.env m.1) (moves_from trees 0 params.now sources.now))) }
+    ensures at { IfOk result (λ ks. (c : Contents) → (s : State Slot) → All (IsKnownGiven c) sources.now → IsAt c run.old s → IsAt c run.new s × AllNamed c.types run.new.table ks.items (map (λ m. machine.read_move s.env m.1) (moves_from c.terms 0 params.now sources.now))) }
     ensures len { IfOk result (λ ks. length ks.items ≡ length params.now) }
 {
     let mut places = Vec::new(run.alloc);
@@ -270,7 +249,7 @@ fn read_moves(
 /// Gives values the terms at places, each in turn.
 fn set_all(run: &mut Run, slots: &[Slot], places: &[u32]) -> Result<(), AllocError>
     requires { length places.now ≡ length slots.now }
-    ensures { OnOk result ((trees : List TypeTree) → (s : State Slot) → (ts : List Term) → IsAt trees run.old s → AllNamed trees run.old.table places.now ts → IsAt trees run.new (with_each s slots.now ts)) }
+    ensures { OnOk result ((c : Contents) → (s : State Slot) → (ts : List Term) → IsAt c run.old s → AllNamed c.types run.old.table places.now ts → IsAt c run.new (with_each s slots.now ts)) }
 {
     for at in 0..slots.len() {
         set(run, slots[at], places[at])?;
@@ -280,7 +259,7 @@ fn set_all(run: &mut Run, slots: &[Slot], places: &[u32]) -> Result<(), AllocErr
 
 /// What an edge hands to the phis or arguments of its target, all read before any is set.
 fn move_all(run: &mut Run, params: &[Slot], sources: &[Option<Source>]) -> Result<(), AllocError>
-    ensures { OnOk result ((trees : List TypeTree) → (s : State Slot) → All (IsTypedGiven (length trees)) sources.now → IsAt trees run.old s → IsAt trees run.new (machine.move Slot same_slot s (moves_from trees 0 params.now sources.now))) }
+    ensures { OnOk result ((c : Contents) → (s : State Slot) → All (IsKnownGiven c) sources.now → IsAt c run.old s → IsAt c run.new (machine.move Slot same_slot s (moves_from c.terms 0 params.now sources.now))) }
 {
     let places = read_moves(run, params, sources)?;
     set_all(run, params, places.as_slice())
@@ -288,8 +267,8 @@ fn move_all(run: &mut Run, params: &[Slot], sources: &[Option<Source>]) -> Resul
 
 /// Enters a block and runs it to its end.
 fn arrive(run: &mut Run, to: u32, rows: &[Row]) -> Result<(), AllocError>
-    requires { IsRunOver (λ n. All (IsTypedRow n) rows.now) run.old }
-    ensures { OnOk result ((trees : List TypeTree) → (s : State Slot) → All (IsTypedRow (length trees)) rows.now → IsAt trees run.old s → IsAt trees run.new (machine.arrive Slot same_slot s to (map (row_of trees) rows.now))) }
+    requires { IsRunOver (λ c. All (IsKnownRow c) rows.now) run.old }
+    ensures { OnOk result ((c : Contents) → (s : State Slot) → All (IsKnownRow c) rows.now → IsAt c run.old s → IsAt c run.new (machine.arrive Slot same_slot s to (map (row_of c) rows.now))) }
 {
     run.block = to;
     note(run, TraceItem::Block(to))?;
@@ -298,50 +277,50 @@ fn arrive(run: &mut Run, to: u32, rows: &[Row]) -> Result<(), AllocError>
 
 /// Takes an edge to a block, given the phis or arguments there.
 fn follow(run: &mut Run, edge: &Edge, params: &[Slot], target: &Block) -> Result<(), AllocError>
-    requires { IsRunOver (λ n. IsTypedEdge n edge.now × IsTypedBlock n target.now) run.old }
-    ensures { OnOk result ((trees : List TypeTree) → (s : State Slot) → IsTypedEdge (length trees) edge.now → IsTypedBlock (length trees) target.now → IsAt trees run.old s
-        → IsAt trees run.new (machine.arrive Slot same_slot (machine.move Slot same_slot s (moves_from trees 0 params.now edge.now.sources)) edge.now.to (map (row_of trees) target.now.rows))) }
+    requires { IsRunOver (λ c. IsKnownEdge c edge.now × IsKnownBlock c target.now) run.old }
+    ensures { OnOk result ((c : Contents) → (s : State Slot) → IsKnownEdge c edge.now → IsKnownBlock c target.now → IsAt c run.old s
+        → IsAt c run.new (machine.arrive Slot same_slot (machine.move Slot same_slot s (moves_from c.terms 0 params.now edge.now.sources)) edge.now.to (map (row_of c) target.now.rows))) }
 {
     move_all(run, params, edge.sources.as_slice())?;
     arrive(run, edge.to, target.rows.as_slice())
 }
 
 /// The phis or arguments of the block at a place.
-fn params_of(body: &Body, at: u32) -> &[Slot]
-    ensures { result.now ≡ params_at body.now.params at }
+fn params_of(code: &Code, at: u32) -> &[Slot]
+    ensures { result.now ≡ params_at code.now.params at }
 {
-    match body.params.as_slice().get(at as usize) {
+    match code.params.as_slice().get(at as usize) {
         Some(params) => params.as_slice(),
         None => &[],
     }
 }
 
 /// Takes the edge that a choice names, and answers whether there is one that leads to a block.
-fn jump(run: &mut Run, body: &Body, choice: u32) -> Result<bool, AllocError>
-    requires { IsRunOver (λ n. All (IsTypedBlock n) body.now.blocks) run.old }
-    ensures { IfOk result (λ went. (trees : List TypeTree) → (s : State Slot) → All (IsTypedBlock (length trees)) body.now.blocks → IsAt trees run.old s → IsJumped trees run.new went s (machine.jump Slot same_slot (code_of trees body.now.params body.now.blocks) s choice)) }
+fn jump(run: &mut Run, code: &Code, choice: u32) -> Result<bool, AllocError>
+    requires { IsRunOver (λ c. All (IsKnownBlock c) code.now.blocks) run.old }
+    ensures { IfOk result (λ went. (c : Contents) → (s : State Slot) → All (IsKnownBlock c) code.now.blocks → IsAt c run.old s → IsJumped c run.new went s (machine.jump Slot same_slot (code_of c code.now.params code.now.blocks) s choice)) }
 {
-    let code = body.blocks.as_slice();
-    let Some(block) = code.get(run.block as usize) else {
+    let blocks = code.blocks.as_slice();
+    let Some(block) = blocks.get(run.block as usize) else {
         return Ok(false)
     };
     let Some(edge) = block.edges.as_slice().get(choice as usize) else {
         return Ok(false)
     };
-    let Some(target) = code.get(edge.to as usize) else {
+    let Some(target) = blocks.get(edge.to as usize) else {
         return Ok(false)
     };
-    follow(run, edge, params_of(body, edge.to), target)?;
+    follow(run, edge, params_of(code, edge.to), target)?;
     Ok(true)
 }
 
 /// Runs on, with a choice for each jump, until the choices end or one names no edge.
-fn run_on(run: &mut Run, body: &Body, choices: &[u32]) -> Result<(), AllocError>
-    requires { IsRunOver (λ n. All (IsTypedBlock n) body.now.blocks) run.old }
-    ensures { OnOk result ((trees : List TypeTree) → (s : State Slot) → All (IsTypedBlock (length trees)) body.now.blocks → IsAt trees run.old s → IsAt trees run.new (machine.run Slot same_slot (code_of trees body.now.params body.now.blocks) choices.now s)) }
+fn run_on(run: &mut Run, code: &Code, choices: &[u32]) -> Result<(), AllocError>
+    requires { IsRunOver (λ c. All (IsKnownBlock c) code.now.blocks) run.old }
+    ensures { OnOk result ((c : Contents) → (s : State Slot) → All (IsKnownBlock c) code.now.blocks → IsAt c run.old s → IsAt c run.new (machine.run Slot same_slot (code_of c code.now.params code.now.blocks) choices.now s)) }
 {
     for choice in choices {
-        if !jump(run, body, *choice)? {
+        if !jump(run, code, *choice)? {
             return Ok(());
         }
     }
@@ -350,8 +329,7 @@ fn run_on(run: &mut Run, body: &Body, choices: &[u32]) -> Result<(), AllocError>
 
 /// Sets the parameters of a run that has none so far.
 fn set_inputs(run: &mut Run, holder: u32, inputs: u32) -> Result<(), AllocError>
-    requires { (trees : List TypeTree) → IsAt trees run.old (machine.begin Slot same_slot (start_of holder 0)) }
-    ensures { OnOk result ((trees : List TypeTree) → IsAt trees run.new (machine.begin Slot same_slot (start_of holder inputs))) }
+    ensures { OnOk result ((c : Contents) → IsAt c run.old (machine.begin Slot same_slot (start_of holder 0)) → IsAt c run.new (machine.begin Slot same_slot (start_of holder inputs))) }
 {
     for place in 0..inputs {
         let term = intern(run, TermNode::Param(place))?;
@@ -360,13 +338,13 @@ fn set_inputs(run: &mut Run, holder: u32, inputs: u32) -> Result<(), AllocError>
     Ok(())
 }
 
-/// A run before its first block, with its parameters set.
-fn begin(alloc: Global, holder: u32, inputs: u32) -> Result<Run, AllocError>
-    ensures { IfOk result (λ run. (trees : List TypeTree) → IsAt trees run (machine.begin Slot same_slot (start_of holder inputs))) }
+/// A run before its first block, with its parameters set, whose table has the terms of constants.
+fn begin(alloc: Global, terms: TermTable, holder: u32, inputs: u32) -> Result<Run, AllocError>
+    ensures { IfOk result (λ run. (trees : List TypeTree) → AreTyped (length trees) terms → IsAt (over trees terms) run (machine.begin Slot same_slot (start_of holder inputs))) }
 {
     let mut run = Run {
         alloc,
-        table: TermTable::new(alloc),
+        table: terms,
         env: IndexMap::new(alloc),
         block: 0,
         count: 0,
@@ -376,12 +354,18 @@ fn begin(alloc: Global, holder: u32, inputs: u32) -> Result<Run, AllocError>
 }
 
 /// A run that is at the end of the first block.
-fn first(alloc: Global, body: &Body) -> Result<Run, AllocError>
-    requires { (trees : List TypeTree) × All (IsTypedBlock (length trees)) body.now.blocks }
-    ensures { IfOk result (λ run. (trees : List TypeTree) → All (IsTypedBlock (length trees)) body.now.blocks → IsAt trees run (machine.first Slot same_slot (start_of body.now.holder body.now.inputs) (code_of trees body.now.params body.now.blocks))) }
+fn first(
+    alloc: Global,
+    terms: TermTable,
+    holder: u32,
+    inputs: u32,
+    code: &Code,
+) -> Result<Run, AllocError>
+    requires { (trees : List TypeTree) × AreTyped (length trees) terms × All (IsKnownBlock (over trees terms)) code.now.blocks }
+    ensures { IfOk result (λ run. (trees : List TypeTree) → AreTyped (length trees) terms → All (IsKnownBlock (over trees terms)) code.now.blocks → IsAt (over trees terms) run (machine.first Slot same_slot (start_of holder inputs) (code_of (over trees terms) code.now.params code.now.blocks))) }
 {
-    let mut run = begin(alloc, body.holder, body.inputs)?;
-    match body.blocks.as_slice().first() {
+    let mut run = begin(alloc, terms, holder, inputs)?;
+    match code.blocks.as_slice().first() {
         Some(block) => arrive(&mut run, 0, block.rows.as_slice()).and(Ok(run)),
         None => Ok(run),
     }
@@ -389,14 +373,21 @@ fn first(alloc: Global, body: &Body) -> Result<Run, AllocError>
 
 /// The trace of a body, for a list of choices.
 pub fn trace_body(alloc: Global, body: Body, choices: &[u32]) -> Result<Trace, AllocError>
-    requires typed { All (IsTypedBlock (length (type_trees body.types))) body.blocks }
-    ensures exact { IfOk result (λ t. items_of t ≡ machine.trace Slot same_slot (start_of body.holder body.inputs) (code_of (type_trees body.types) body.params body.blocks) choices.now) }
+    requires known { All (IsKnownBlock (contents_of body.types body.terms)) body.code.blocks }
+    requires typed { AreTyped (length (type_trees body.types)) body.terms }
+    ensures exact { IfOk result (λ t. items_of t ≡ machine.trace Slot same_slot (start_of body.holder body.inputs) (code_of (contents_of body.types body.terms) body.code.params body.code.blocks) choices.now) }
     ensures tables { IfOk result HasTables }
 {
-    let mut run = first(alloc, &body)?;
-    run_on(&mut run, &body, choices)?;
+    let Body {
+        types,
+        terms,
+        holder,
+        inputs,
+        code,
+    } = body;
+    let mut run = first(alloc, terms, holder, inputs, &code)?;
+    run_on(&mut run, &code, choices)?;
     let Run { table, items, .. } = run;
-    let Body { types, .. } = body;
 
     // These tell the proof what is true of every table.
     let _ = types.len();

@@ -3,7 +3,7 @@
 ghost use Rattle.std.specs.Prelude.{◌≡◌, ◌<◌, ℕ, List, [], Some, IfOk, OnOk, OnErr, length, slice_get};
 ghost use Rattle.support.specs.Interned.{IsDistinctList};
 ghost use Rattle.llvm_core.specs.Data.{TypeTree};
-ghost use Rattle.tracing.specs.Table.{terms, node_term, HasPartsBelow, IsGrounded, HasTypeBelow, AreTyped, Gives};
+ghost use Rattle.tracing.specs.Table.{terms, term_at, node_term, HasPartsBelow, IsGrounded, HasTypeBelow, AreTyped, Gives};
 
 use kinds::fill::Fill;
 use kinds::op::Op;
@@ -26,6 +26,10 @@ pub enum TermNode {
     Int(u32, u128),
     /// Zero, undef or poison of a type, which is a place of a table of types.
     Filled(Fill, LLVMType),
+    /// An aggregate of a type, which is a place of a table of types, by its elements.
+    ListOf(LLVMType, Items<u32>),
+    /// A scalable vector of a type, which is a place of a table of types, each lane of which is that.
+    SplatOf(LLVMType, u32),
     /// An expression of a silent row, whose type is a place of a table of types.
     Expr {
         op: Op,
@@ -74,7 +78,8 @@ impl TermTable {
 
     pub fn node(&self, place: u32) -> &TermNode
         requires { place < length self.now }
-        ensures { slice_get self.now place ≡ Some result.now }
+        ensures node { slice_get self.now place ≡ Some result.now }
+        ensures term { (trees : List TypeTree) → term_at (terms trees self.now) place ≡ node_term trees (terms trees self.now) result.now }
     {
         self.nodes.value(place)
     }

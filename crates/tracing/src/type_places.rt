@@ -3,7 +3,7 @@
 ghost use Rattle.std.specs.Prelude.{◌≡◌, List, [], IfOk, OnOk, length, slice_index_or};
 ghost use Rattle.support.specs.NumberMaps.{value_at};
 ghost use Rattle.llvm_core.specs.Parts.{IsTypeOver};
-ghost use Rattle.llvm_core.specs.Data.{TypeTree, VoidType, type_tree};
+ghost use Rattle.llvm_core.specs.Data.{TypeTree, VoidType, IntType, ArrayType, type_tree};
 ghost use Rattle.tracing.specs.Types.{IsFitTree, Stands};
 ghost use Rattle.tracing.specs.TypePlaces.{trees_in, ArePlacesOf, IsGrown};
 
@@ -55,6 +55,15 @@ impl TypePlaces {
         let place = self.table.intern(kind)?;
         self.places.set(number, place)?;
         Ok(place)
+    }
+
+    /// The place of the type of an array of so many integers of 8 bits, which the source may not have.
+    pub fn byte_array(&mut self, count: u64) -> Result<LLVMType, AllocError>
+        ensures stands { IfOk result (λ t. Stands (trees_in self.new) t (ArrayType count (IntType 8))) }
+        ensures grown { OnOk result ((source : List TypeTree) → ArePlacesOf source self.old → IsGrown source self.old self.new) }
+    {
+        let byte = self.table.intern(LLVMTypeKind::Int(8))?;
+        self.table.intern(LLVMTypeKind::Array(count, byte))
     }
 
     /// The place of void, which the source may not have.

@@ -51,7 +51,7 @@ readable d c i h typed = record {
   typed = typed;
   functions =
       let gs = (imported_data c i).functions in
-      module_open c i.«module».0.0 (All-weaker IsExportable LeadsToOwn (λ g fit. fit.targets) gs (exportable_imported d h.given d.functions i.blocks gs h.functions)) (forms_imported d h.given d.functions i.blocks gs h.functions);
+      module_open c i.«module».0.0 (All-weaker IsExportable LeadsToOwn (λ g fit. fit.targets) gs (exportable_imported d h.given d.functions i.blocks gs h.functions)) (forms_imported d h.given d.functions i.blocks gs h.functions) h.ruled;
 }
 
 -- each block with arguments is an edge's target

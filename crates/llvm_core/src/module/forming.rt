@@ -125,7 +125,7 @@ impl LLVMModule {
     }
 
     /// Zero, undef or poison, where a constant is that.
-    fn fill_at(&self, c: LLVMConst) -> Option<Fill>
+    pub(crate) fn fill_at(&self, c: LLVMConst) -> Option<Fill>
         requires { c.0 < length self.now.consts }
         ensures { result ≡ option_and_then fill_of (slice_get self.now.consts c.0) }
     {

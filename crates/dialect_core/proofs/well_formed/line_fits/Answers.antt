@@ -8,4 +8,4 @@ use Rattle.dialect_core.proofs.well_formed.line_fits.Goals as goal
 pub returns-then-is_ending-is_none : goal.returns-then-is_ending-is_none
 returns-then-is_ending-is_none c =
     let ends : ends_kind c.op_kind.result.now ≡ is_none c.args.next = grind arith in
-    line_is c.args.ctx.now (func_at c.args.ctx.now c.args.func) c.args.op c.args.next c.op_kind.result.now c.op_fits.result c.op_kind.ensures.kind ends (c.is_past_firsts.ensures.0 c.if-not-is_past_firsts.false) c.op_fits.ensures
+    line_is c.args.ctx.now (func_at c.args.ctx.now c.args.func) c.args.op c.args.next c.op_kind.result.now c.op_fits.result c.op_kind.ensures.kind ends (c.is_plain.ensures.0 c.if-not-is_plain.false) (c.is_past_firsts.ensures.0 c.if-not-is_past_firsts.false) c.op_fits.ensures

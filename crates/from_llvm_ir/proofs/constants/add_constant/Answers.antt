@@ -7,7 +7,10 @@ use Rattle.dialect_core.specs.declared.ops.Successor.{Successor}
 use Rattle.dialect_core.specs.ContextData.{ContextData, IsValueWithin, IsSuccessorWithin}
 use Rattle.kinds.specs.Held.{IsHeldResult}
 use Rattle.kinds.proofs.HeldLaws.{held_result_if}
-use Rattle.dialect_types.specs.Trees.{structs_of, type_at, type_trees}
+use Rattle.dialect_types.specs.Trees.{TypeTree, structs_of, type_at, type_trees}
+use Rattle.llvm_core.specs.Data.{const_at, trees_of}
+use Rattle.llvm_core.specs.Elements.{HasElements}
+use Rattle.kinds.specs.Structs.{Struct}
 use Rattle.from_llvm_ir.specs.Building.{IsOpen, new_op, with_ops}
 use Rattle.from_llvm_ir.specs.Types.{NamesAmong}
 use Rattle.from_llvm_ir.proofs.ConstLaws.{const_typed}
@@ -34,18 +37,22 @@ returns-clause-made g c =
     (λ o added h base left now right u.
     let ts = type_trees c.import_plain.new.ctx.types in
     let ty = type_at ts c.in_ok-made.made in
-    let k = c.constant_kind-kind.ensures.makes ts (c.in_ok-made.ensures.ty ∙ const_typed c.args.source.now c.args.c c.type_of-ty.result c.requires.sound c.type_of-ty.ensures.ty) in (
-      new_op o.0 None k.0 [] [] (Some ty),
+    let typed = c.in_ok-made.ensures.ty ∙ const_typed c.args.source.now c.args.c c.type_of-ty.result c.requires.sound c.type_of-ty.ensures.ty in
+    let k = c.in_ok-kind.ensures in (
+      new_op o.0 None k.made [] [] (Some ty),
       refl,
-      k.2 o.0,
-      subst (λ (ss : List Successor). IsOpen h base c.add_op.new.ctx c.args.block left (with_ops now (now.ops ++ new_op o.0 None k.0 [] ss (Some ty) ∷ [])) right) c.new-successors.ensures
-          (subst (λ (os : List Value). IsOpen h base c.add_op.new.ctx c.args.block left (with_ops now (now.ops ++ new_op o.0 None k.0 os c.new-successors.result (Some ty) ∷ [])) right) c.zero-operands.ensures
-          (added h base left now right k.0 k.1 (typed_open h base c.args.ctx.now c.import_plain.new.ctx c.args.block left now right u c.import_plain.ensures.grown))),
+      (k.made, k.own, ap (λ (t : TypeTree). new_op o.0 None k.made [] [] (Some t)) typed),
+      subst (λ (ss : List Successor). IsOpen h base c.add_op.new.ctx c.args.block left (with_ops now (now.ops ++ new_op o.0 None k.made [] ss (Some ty) ∷ [])) right) c.new-successors.ensures
+          (subst (λ (os : List Value). IsOpen h base c.add_op.new.ctx c.args.block left (with_ops now (now.ops ++ new_op o.0 None k.made os c.new-successors.result (Some ty) ∷ [])) right) c.zero-operands.ensures
+          (added h base left now right k.made k.is (typed_open h base c.args.ctx.now c.import_plain.new.ctx c.args.block left now right u c.import_plain.ensures.grown))),
     ))
     c.add_op.ensures.added
 
 pub returns-in_err-made-clause-kept : goal.returns-in_err-made-clause-kept
 returns-in_err-made-clause-kept g c = λ n b behind. keeps_types n b c.args.ctx.now c.import_plain.new.ctx c.import_plain.ensures.grown
+
+pub returns-in_err-kind-clause-kept : goal.returns-in_err-kind-clause-kept
+returns-in_err-kind-clause-kept g c = λ n b behind. keeps_types n b c.args.ctx.now c.import_plain.new.ctx c.import_plain.ensures.grown
 
 pub returns-clause-kept : goal.returns-clause-kept
 returns-clause-kept g c = λ n b behind. keeps_then n b c.args.ctx.now c.import_plain.new.ctx c.add_op.new.ctx (keeps_types n b c.args.ctx.now c.import_plain.new.ctx c.import_plain.ensures.grown) (c.add_op.ensures.kept n b behind)
@@ -76,7 +83,15 @@ pub import_plain-requires-clause-sound : goal.import_plain-requires-clause-sound
 import_plain-requires-clause-sound g c = c.requires.sound
 
 pub add_op-requires-clause-plain : goal.add_op-requires-clause-plain
-add_op-requires-clause-plain g c = c.constant_kind-kind.ensures.plain
+add_op-requires-clause-plain g c = c.in_ok-kind.ensures.plain
 
 pub add_op-requires-clause-types : goal.add_op-requires-clause-types
-add_op-requires-clause-types g c = c.constant_kind-kind.ensures.types _ c.in_ok-made.ensures.within
+add_op-requires-clause-types g c = c.in_ok-kind.ensures.types
+
+pub constant_kind-requires-clause-taken : goal.constant_kind-requires-clause-taken
+constant_kind-requires-clause-taken g c =
+    let h = c.requires.held in
+    (h.form, h.short, subst (λ (structs : List Struct). HasElements structs (const_at (trees_of c.args.source.now).consts c.args.c)) (sym c.import_plain.ensures.grown.structs) c.requires.elements)
+
+pub constant_kind-requires-clause-ty : goal.constant_kind-requires-clause-ty
+constant_kind-requires-clause-ty g c = c.in_ok-made.ensures.ty ∙ const_typed c.args.source.now c.args.c c.type_of-ty.result c.requires.sound c.type_of-ty.ensures.ty

@@ -8,7 +8,7 @@ use Rattle.from_llvm_ir.specs.Imported.{constant_in}
 use Rattle.from_llvm_ir.specs.Body.{IsHoisting}
 use Rattle.from_llvm_ir.specs.Source.{IsUsed}
 use Rattle.dialect_types.specs.Trees.{structs_of}
-use Rattle.from_llvm_ir.proofs.ConstLaws.{constant_held, constant_ready}
+use Rattle.from_llvm_ir.proofs.ConstLaws.{constant_held, constant_made, constant_ready}
 use Rattle.from_llvm_ir.proofs.constants.hoist.Goals as goal
 
 pub hoist_constant-requires-clause-sound : goal.hoist_constant-requires-clause-sound
@@ -43,3 +43,8 @@ pub hoist_constant-requires-clause-ready : goal.hoist_constant-requires-clause-r
 hoist_constant-requires-clause-ready g c =
     let u = c.requires.used in
     constant_ready u.1 _ (structs_of c.args.ctx.now.types) u.3 (subst (IsUsed c.args.source.now u.1) c.in-Const.is u.4).listed
+
+pub hoist_constant-requires-clause-elements : goal.hoist_constant-requires-clause-elements
+hoist_constant-requires-clause-elements g c =
+    let u = c.requires.used in
+    constant_made u.1 _ (structs_of c.args.ctx.now.types) u.3 (subst (IsUsed c.args.source.now u.1) c.in-Const.is u.4).listed

@@ -32,6 +32,7 @@ returns-clause-imported g c =
     imported_seen c.args.source.now c.import_parts.new.names c.import_parts.new.ctx _ c.in_ok-module.body start.building.0 c.keeps_legal.ensures begins gave c.know_kept.ensures.regions c.know_kept.ensures.symbols (c.has_few.ensures.0 c.if-not-has_few.false)
     c.in_ok-blocks.ensures.named.gave
     (c.in_ok-blocks.ensures.ok c.in_ok-module.«module».0.0 c.in_ok-module.ensures.building.0 c.in_ok-module.ensures.building.2 c.import_parts.new.names (goes_same c.import_parts.new.names))
+    c.requires.form c.requires.taken c.in_ok-blocks.ensures.named c.in_ok-blocks.ensures.structs.made
 
 pub returns-in_err-module-clause-others : goal.returns-in_err-module-clause-others
 returns-in_err-module-clause-others g c = others_kept c.args.ctx.now c.start_module.new.ctx (c.start_module.ensures.kept _ _ (omega arith)).leaves

@@ -67,7 +67,7 @@ import_bodies-requires-clause-ready g c =
     let names = names_given (data_of c.args.«module».now) c.name_structs.new.names ps c.keeps_legal.ensures c.in_ok-structs.ensures.named in
     let is = c.in_ok-source.ensures ∙ ap (λ qs. renamed_store (struct_name (pairs_of qs)) c.args.«module».now) c.as_slice.ensures.value in
     let made = subst (λ qs. AreMade (data_of c.args.«module».now) (pairs_of qs) (structs_of c.make_structs.new.ctx.types)) c.as_slice-2.ensures.value c.in_ok-make_structs.ensures.made in
-    seen_ready c.args.«module».now c.in_ok-source.source ps names is c.name_structs.new.names (structs_of c.make_structs.new.ctx.types) c.in_ok-structs.ensures.named made
+    seen_ready c.args.«module».now c.in_ok-source.source ps names is c.name_structs.new.names (structs_of c.make_structs.new.ctx.types) c.in_ok-structs.ensures.named made c.requires.form c.requires.taken
 
 pub import_bodies-requires-clause-building : goal.import_bodies-requires-clause-building
 import_bodies-requires-clause-building g c =

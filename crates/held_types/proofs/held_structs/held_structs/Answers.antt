@@ -3,7 +3,7 @@ use Rattle.std.proofs.Common.{length, refl}
 use Rattle.held_types.specs.Values.{IsInSignatures, IsInResults, IsInConstants}
 use Rattle.held_types.proofs.WalkLaws.{passed_on}
 use Rattle.held_types.proofs.ValueLaws.{whole_walk, held_by_walk, unheld_by, signatures_in, results_in, constants_in}
-use Rattle.held_types.proofs.WideLaws.{wide_used, none_wide}
+use Rattle.held_types.specs.declared.lacks.Lack.TheVariants as K
 use Rattle.held_types.proofs.held_structs.held_structs.Goals as goal
 
 pub returns-in_err-walk_signatures-clause-cause : goal.returns-in_err-walk_signatures-clause-cause
@@ -27,17 +27,12 @@ returns-in_err-walk_constants-clause-cause c =
     let r = c.from_residual-in_err-walk_constants in
     passed_on r.result e _ r.ensures.1 (unheld_by m (IsInConstants m (length m.insts)) (constants_in m c.in_ok-walk.ensures.sound) e c.in_err-walk_constants.ensures.cause)
 
-pub returns-in-Some-clause-cause : goal.returns-in-Some-clause-cause
-returns-in-Some-clause-cause c =
-    let used = rw c.in-Some.is at c.too_wide.ensures.some in
-    wide_used c.args.source.now c.in_ok-walk.ensures.sound c.in-Some.width used.0 used.1
-
 pub returns-clause-held : goal.returns-clause-held
 returns-clause-held c =
     let m = c.args.source.now in
-    let sound = c.in_ok-walk.ensures.sound in
-    let whole = whole_walk m sound c.in_ok-walk.walk c.walk_signatures.new.walk c.walk_results.new.walk c.walk_constants.new.walk c.in_ok-walk_signatures.ensures.walk c.in_ok-walk_results.ensures.walk c.in_ok-walk_constants.ensures.walk in
-    record { types = whole.met.none; constants = none_wide m sound (c.in_default.ensures.none refl) }
+    let whole = whole_walk m c.in_ok-walk.ensures.sound c.in_ok-walk.walk c.walk_signatures.new.walk c.walk_results.new.walk c.walk_constants.new.walk c.in_ok-walk_signatures.ensures.walk c.in_ok-walk_results.ensures.walk c.in_ok-walk_constants.ensures.walk in
+    let none = c.in_ok-refuse_lacks.ensures.held in
+    record { types = whole.met.none; constants = λ width. none (K.TooWide width); splats = none K.ScalableSplat }
 
 pub returns-clause-structs : goal.returns-clause-structs
 returns-clause-structs c =

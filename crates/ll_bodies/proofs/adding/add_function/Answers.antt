@@ -1,5 +1,5 @@
 -- What `adding::add_function` owes besides what the check finds.
-use Rattle.std.proofs.Common.{slice_get, Some, sym, ap, ◌∙◌}
+use Rattle.std.proofs.Common.{length, slice_get, Some, sym, ap, ◌∙◌}
 use Rattle.llvm_core.specs.Module.{Module}
 use Rattle.llvm_core.specs.declared.types.LLVMTypeKind.TheVariants as kinds
 use Rattle.std.specs.Option.{option_map}
@@ -8,7 +8,8 @@ use Rattle.ll_lines.specs.Lines.{Text}
 use Rattle.ll_literals.specs.Names.{symbol_name}
 use Rattle.ll_bodies.proofs.AddingLaws.{adds_kept}
 use Rattle.ll_bodies.proofs.ErrLaws.{on_ok_both}
-use Rattle.ll_bodies.proofs.JoinLaws.{joined, unjoined}
+use Rattle.ll_bodies.proofs.JoinLaws.{joined, unjoined, keeps_declared}
+use Rattle.ll_bodies.proofs.ViewLaws.{function_kept, meant_kept}
 use Rattle.ll_bodies.proofs.adding.add_function.Goals as goal
 
 pub returns-clause-ok : goal.returns-clause-ok
@@ -17,14 +18,14 @@ returns-clause-ok c =
     let called = ap (λ t. symbol_name t) (sym c.text.ensures) ∙ said in
     let o = c.in_ok-f.ensures in
     on_ok_both c.give_body.result (λ b sound.
-    joined c.args.bytes.now c.in_ok-f.f.0 c.as_str.result.now c.args.said.now c.args.module.now c.function_type.new.module c.declare.new.module c.give_body.new.module
-    c.requires.sound c.requires.said c.in_ok-ty.ensures.grows o.number o.rest called o.data b sound) c.give_body.ensures.ok c.give_body.ensures.sound
+    joined c.args.shared.now.bytes.now c.args.shared.now.table.now c.in_ok-f.f.0 c.as_str.result.now c.args.said.now c.args.module.now c.function_type.new.module c.declare.new.module c.give_body.new.module
+    c.requires.sound c.requires.table c.requires.said c.in_ok-ty.ensures.grows o.number o.rest called o.data b sound) c.give_body.ensures.ok c.give_body.ensures.sound
 
 pub returns-clause-not_yet : goal.returns-clause-not_yet
 returns-clause-not_yet c = λ e.
     let o = c.in_ok-f.ensures in
-    unjoined c.args.bytes.now c.in_ok-f.f.0 c.args.said.now c.args.module.now c.function_type.new.module c.declare.new.module
-    c.requires.sound c.requires.said c.in_ok-ty.ensures.grows o.number o.rest (c.give_body.ensures.not_yet e)
+    unjoined c.args.shared.now.bytes.now c.args.shared.now.table.now c.in_ok-f.f.0 c.args.said.now c.args.module.now c.function_type.new.module c.declare.new.module
+    c.requires.sound c.requires.table c.requires.said c.in_ok-ty.ensures.grows o.number o.rest (c.give_body.ensures.not_yet e)
 
 pub give_body-requires-clause-bit : goal.give_body-requires-clause-bit
 give_body-requires-clause-bit c =
@@ -35,3 +36,14 @@ pub give_body-requires-clause-void : goal.give_body-requires-clause-void
 give_body-requires-clause-void c =
     ap (λ (m : Module). slice_get m.types c.args.types.now.void.0) c.in_ok-f.ensures.rest
     ∙ adds_kept c.args.module.now c.function_type.new.module c.in_ok-ty.ensures.grows c.args.types.now.void.0 kinds.Void c.requires.void
+
+pub give_body-requires-clause-made : goal.give_body-requires-clause-made
+give_body-requires-clause-made c =
+    let s = c.args.shared.now in
+    let keeps = keeps_declared c.args.module.now c.function_type.new.module c.in_ok-ty.ensures.grows c.declare.new.module c.in_ok-f.ensures.rest in
+    meant_kept s.bytes.now c.args.module.now c.declare.new.module keeps c.requires.sound s.table.now c.requires.table (length s.table.now) s.consts.now c.requires.made
+
+pub give_body-requires-clause-said : goal.give_body-requires-clause-said
+give_body-requires-clause-said c =
+    let keeps = keeps_declared c.args.module.now c.function_type.new.module c.in_ok-ty.ensures.grows c.declare.new.module c.in_ok-f.ensures.rest in
+    function_kept c.args.module.now c.declare.new.module keeps (length c.args.shared.now.table.now) c.args.said.now c.requires.said

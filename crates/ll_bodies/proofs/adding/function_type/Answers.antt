@@ -11,7 +11,7 @@ pub type_number-requires-clause-parts : goal.type_number-requires-clause-parts
 type_number-requires-clause-parts c =
     let n = length c.args.module.now.types in
     let is : c.in_ok-params.params ≡ map (λ (p : Param). p.ty) c.args.said.now.params.items = c.in_ok-params.ensures ∙ ap (λ (ps : List Param). map (λ (p : Param). p.ty) ps) c.as_slice.ensures.value in
-    (c.requires.result, subst (λ (ts : List LLVMType). All (λ (t : LLVMType). t.0 < n) ts) (sym is) (types_there n c.args.said.now.params.items c.requires.params))
+    (c.requires.0, subst (λ (ts : List LLVMType). All (λ (t : LLVMType). t.0 < n) ts) (sym is) (types_there n c.args.said.now.params.items c.requires.1))
 
 pub returns-clause-here : goal.returns-clause-here
 returns-clause-here c =

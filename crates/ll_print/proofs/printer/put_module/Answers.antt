@@ -40,7 +40,7 @@ pub returns-clause-text : goal.returns-clause-text
 returns-clause-text c =
     let d = data_of c.args.m.now in
     module_all c.args.m.now c.loop-f.f _ (c.args.out.now.items ++ source_text c.args.m.now.name ++ structs_text d.structs) (omega (arith, c.functions-f-end.ensures.len, c.loop-f-test.false)) c.loop-f.invariant.text
-    ∙ three_parts c.args.out.now.items (source_text d.name) (structs_text d.structs) (flat_map function_text d.functions)
+    ∙ three_parts c.args.out.now.items (source_text d.name) (structs_text d.structs) (flat_map (function_text d.structs) d.functions)
 
 pub returns-clause-numbers : goal.returns-clause-numbers
 returns-clause-numbers c = functions_have c.args.m.now IsNumberable (λ f l. let within : f < c.loop-f.f = omega (arith, l, c.functions-f-end.ensures.len, c.loop-f-test.false) in c.loop-f.invariant.numbers f within)

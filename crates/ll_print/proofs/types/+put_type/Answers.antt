@@ -8,7 +8,8 @@ use Rattle.llvm_core.specs.Data.{trees_of, type_at, types_at}
 use Rattle.support.proofs.KeepLaws.{keeps_then, keeps_appended}
 use Rattle.ll_literals.specs.Names.{local, printed_name}
 use Rattle.ll_print.specs.Printing.{vector_open, counted_text, type_text}
-use Rattle.ll_print.proofs.FieldLaws.{reach_at, reach_most, parts_there, first_field, gap_put, fields_strung, struct_put}
+use Rattle.ll_print.proofs.FieldLaws.{first_field, gap_put, fields_strung, struct_put}
+use Rattle.ll_print.proofs.ReachLaws.{reach_at, reach_most, parts_there}
 use Rattle.ll_print.proofs.StrungLaws.{behind_comma, strung_put, strung_all}
 use Rattle.ll_print.proofs.TextLaws.{put_is, ok_is, ok_extended, type_text-kind}
 use Rattle.ll_print.proofs.types.+put_type.Goals as goal
@@ -83,7 +84,7 @@ put_fields-returns-clause-text t c =
 
 pub put_fields-put_type-requires : goal.put_fields-put_type-requires
 put_fields-put_type-requires t c = (
-  omega (arith, reach_at c.args.fields.now c.loop-place.place (record { 0 = 0 }) c.loop-place-test.true),
+  omega (arith, reach_at (λ (t : LLVMType). t.0) c.args.fields.now c.loop-place.place (record { 0 = 0 }) c.loop-place-test.true),
   (c.requires.sound, c.requires.within c.loop-place.place (record { 0 = 0 }) c.loop-place-test.true),
 )
 
@@ -96,7 +97,7 @@ pub put_type-put_struct-requires : goal.put_type-put_struct-requires
 put_type-put_struct-requires t c =
     let below : All (λ (u : LLVMType). u.0 < c.args.ty.0) c.in-Literal.fields = subst (IsTypeOver c.args.ty.0) c.in-Literal.is c.type_kind.ensures.parts in
     let parts = subst (All (λ (u : LLVMType). u.0 < c.args.ty.0)) (sym c.as_slice.ensures) below in
-    (omega (arith, reach_most c.args.ty.0 c.as_slice.result.now parts), (c.requires.sound, parts_there c.args.ty.0 (length c.args.m.now.types) c.as_slice.result.now c.requires.within parts))
+    (omega (arith, reach_most (λ (t : LLVMType). t.0) c.args.ty.0 c.as_slice.result.now parts), (c.requires.sound, parts_there (λ (t : LLVMType). t.0) c.args.ty.0 (length c.args.m.now.types) c.as_slice.result.now c.requires.within parts))
 
 pub put_struct-returns-clause-text : goal.put_struct-returns-clause-text
 put_struct-returns-clause-text t c =

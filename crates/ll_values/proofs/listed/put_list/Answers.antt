@@ -1,5 +1,5 @@
 -- What is made stands in place of its parts, and names what is there.
-use Rattle.std.proofs.Common.{rules, arith, ◌≡◌, ◌∷◌, [], ◌∙◌, None, refl, sym}
+use Rattle.std.proofs.Common.{rules, arith, ◌≡◌, ◌∷◌, [], ◌∙◌, refl, sym}
 use Rattle.llvm_core.specs.Data.{trees_of}
 use Rattle.ll_values.specs.declared.form.Kind.TheVariants as K
 use Rattle.ll_values.specs.declared.form.ListKind.TheVariants as L
@@ -58,16 +58,6 @@ put-requires-in-Text-clause-there c =
     let all = parts_there (IsValueIn c.args.m.now c.args.store.now) 2 c.args.stack.now _ c.requires.standing.values (sym parts ∙ c.first-in-Structure.ensures) in
     all 1 V.Nothing (omega arith)
 
-pub put_struct-requires-clause-parts : goal.put_struct-requires-clause-parts
-put_struct-requires-clause-parts c =
-    let parts : c.first-in-FileMore.result.now ≡ V.Struct c.in-Struct.first ∷ V.File None c.in-Struct.rest c.in-Struct.functions ∷ [] = search rules in
-    sym c.first-in-FileMore.ensures ∙ parts
-
-pub put_function-requires-clause-parts : goal.put_function-requires-clause-parts
-put_function-requires-clause-parts c =
-    let parts : c.first-in-FileMore.result.now ≡ V.Function c.in-Function.first ∷ V.File None c.in-Function.structs c.in-Function.rest ∷ [] = search rules in
-    sym c.first-in-FileMore.ensures ∙ parts
-
 pub put-requires-in-Some-clause-there : goal.put-requires-in-Some-clause-there
 put-requires-in-Some-clause-there c =
     let all = parts_there (IsValueIn c.args.m.now c.args.store.now) 5 c.args.stack.now _ c.requires.standing.values (sym c.in-Some.ensures.parts ∙ c.first-in-Head.ensures) in
@@ -83,9 +73,3 @@ put-requires-in-Some-definition_of-clause-there c =
 
 pub returns-in-None-definition_of-clause-not_yet : goal.returns-in-None-definition_of-clause-not_yet
 returns-in-None-definition_of-clause-not_yet c = λ e. rw c.in-Define.is (puts_none c.args.bytes.now (K.List L.Define) c.args.m.now c.args.store.now c.args.stack.now _ c.first-in-Define.ensures (c.in-None-definition_of.ensures.none refl c.args.bytes.now (trees_of c.args.m.now) c.args.store.now))
-
-pub put-requires-in-Source-clause-there : goal.put-requires-in-Source-clause-there
-put-requires-in-Source-clause-there c =
-    let parts : c.first-in-FileMore.result.now ≡ V.Source c.in-Source.name ∷ V.File None c.in-Source.structs c.in-Source.functions ∷ [] = search rules in
-    let all = parts_there (IsValueIn c.args.m.now c.args.store.now) 2 c.args.stack.now _ c.requires.standing.values (sym parts ∙ c.first-in-FileMore.ensures) in
-    all 1 V.Nothing (omega arith)

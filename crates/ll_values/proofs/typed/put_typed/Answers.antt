@@ -38,3 +38,23 @@ pub returns-in_ok-replace-in-Type-first-2-clause-puts : goal.returns-in_ok-repla
 returns-in_ok-replace-in-Type-first-2-clause-puts c =
     let parts : c.first-in-Phi.result.now ≡ V.Type c.in-Type-first-2.ty ∷ V.Entry c.in-Type-first-2.entry ∷ V.Entries c.in-Type-first-2.rest ∷ [] = search rules in
     rw c.in-Phi.is (puts c.args.bytes.now (K.Typed T.Phi) c.args.m.now c.args.store.now c.args.stack.now _ _ _ _ _ c.requires.standing (sym parts ∙ c.first-in-Phi.ensures) c.in_ok-n-in-Type-first-2.ensures.made c.in_ok-replace-in-Type-first-2.ensures)
+
+pub make_one-requires-clause-literal : goal.make_one-requires-clause-literal
+make_one-requires-clause-literal c =
+    let parts : c.first-in-Typed.result.now ≡ V.Type c.in-Type.ty ∷ V.Literal c.in-Type.a ∷ [] = search rules in
+    (parts_there (IsValueIn c.args.m.now c.args.store.now) 2 c.args.stack.now _ c.requires.standing.values (sym parts ∙ c.first-in-Typed.ensures)) 1 V.Nothing (omega arith)
+
+pub make_pair-requires-clause-a : goal.make_pair-requires-clause-a
+make_pair-requires-clause-a c =
+    let parts : c.first-in-Pair.result.now ≡ V.Type c.in-Type-first.ty ∷ V.Literal c.in-Type-first.a ∷ V.Literal c.in-Type-first.b ∷ [] = search rules in
+    (parts_there (IsValueIn c.args.m.now c.args.store.now) 3 c.args.stack.now _ c.requires.standing.values (sym parts ∙ c.first-in-Pair.ensures)) 1 V.Nothing (omega arith)
+
+pub make_pair-requires-clause-b : goal.make_pair-requires-clause-b
+make_pair-requires-clause-b c =
+    let parts : c.first-in-Pair.result.now ≡ V.Type c.in-Type-first.ty ∷ V.Literal c.in-Type-first.a ∷ V.Literal c.in-Type-first.b ∷ [] = search rules in
+    (parts_there (IsValueIn c.args.m.now c.args.store.now) 3 c.args.stack.now _ c.requires.standing.values (sym parts ∙ c.first-in-Pair.ensures)) 2 V.Nothing (omega arith)
+
+pub make_phi-requires-clause-entry : goal.make_phi-requires-clause-entry
+make_phi-requires-clause-entry c =
+    let parts : c.first-in-Phi.result.now ≡ V.Type c.in-Type-first-2.ty ∷ V.Entry c.in-Type-first-2.entry ∷ V.Entries c.in-Type-first-2.rest ∷ [] = search rules in
+    (parts_there (IsValueIn c.args.m.now c.args.store.now) 3 c.args.stack.now _ c.requires.standing.values (sym parts ∙ c.first-in-Phi.ensures)) 1 V.Nothing (omega arith)

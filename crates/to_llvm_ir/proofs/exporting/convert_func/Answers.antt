@@ -3,7 +3,7 @@ use Rattle.std.proofs.Common.{◌≡◌, ◌<◌, ◌∙◌, ◌^◌, Some, leng
 use Rattle.std.specs.Prelude.{IfErr}
 use Rattle.support.proofs.ResultLaws.{both}
 use Rattle.llvm_core.specs.Data as L
-use Rattle.dialect_types.specs.Trees.{type_trees}
+use Rattle.dialect_types.specs.Trees.{structs_of, type_trees}
 use Rattle.dialect_core.specs.Data.{Func, func_in}
 use Rattle.dialect_core.specs.Form.{IsFormFunc}
 use Rattle.to_llvm_ir.specs.Causes.{IsFuncCause}
@@ -61,7 +61,7 @@ returns-clause-ok c = λ g is form.
     let t = s.0 in
     let old = c.args.cctx.now.module in
     let held = is ∙ ap Some (sym s.2) in
-    let form_t : IsFormFunc t.source = subst IsFormFunc (sym s.2) form in
+    let form_t : IsFormFunc t.source = subst IsFormFunc (sym s.2) form.0 in
     let are = are_blocks c.args.ctx.now c.args.op t c.op_blocks-list.result.now s.4 held c.op_blocks-list.ensures.blocks c.op_blocks-list.ensures.within in
     let count = count_is c.args.ctx.now c.args.op t.source c.op_blocks-list.result.now held c.op_blocks-list.ensures.blocks c.op_blocks-list.ensures.within in
     let opening = c.in_ok-cctx.ensures.ok t s.1 are s.5 in
@@ -72,7 +72,7 @@ returns-clause-ok c = λ g is form.
     both c.add_edges.result (c.add_edges.ensures.ok t are (sym s.7) opening.mapped state) (c.add_edges.ensures.accepted t are (sym s.7) opening.mapped state)
     (λ _ done edges.
     subst (λ (x : Func). AddsFunction x (L.data_of old) (L.data_of c.add_edges.new.back)) s.2
-    (finished t form_t s.4.order old c.in_ok-cctx-2.field-0 c.add_edges.new.back s.3 functions
+    (finished t form_t (structs_of c.args.ctx.now.types, s.4.ruled) s.4.order old c.in_ok-cctx-2.field-0 c.add_edges.new.back s.3 functions
     (accepted t.numbers.order t.source few (c.in_ok-cctx.ensures.labelled t are) (c.in_ok-cctx-2.ensures.accepted t begun) edges)
     done))
 

@@ -30,3 +30,6 @@ loop-op-preserved c =
 
 pub returns-clause-ok : goal.returns-clause-ok
 returns-clause-ok c = adds_all c.args.ctx.now c.args.ops.now c.loop-op.op-index (L.data_of c.args.cctx.now.module) (L.data_of c.loop-op.cctx.module) c.loop-op-test.false c.loop-op.invariant
+
+pub convert_held-requires-clause-structs : goal.convert_held-requires-clause-structs
+convert_held-requires-clause-structs c = ap (λ (d : L.ModuleData). d.structs) c.loop-op.invariant.is ∙ c.requires.structs

@@ -11,7 +11,7 @@ use Rattle.to_llvm_ir.proofs.exporting.convert_held_functions.Goals as goal
 
 pub convert_functions-requires-clause-forms : goal.convert_functions-requires-clause-forms
 convert_functions-requires-clause-forms c =
-    forms_held c.args.ctx.now c.args.«module».0.0 c.as_slice.result.now c.requires.functions (c.as_slice.ensures.value ∙ c.in_ok-ops.ensures.ops)
+    forms_held c.args.ctx.now c.args.«module».0.0 c.as_slice.result.now c.requires.readable.functions (c.as_slice.ensures.value ∙ c.in_ok-ops.ensures.ops)
 
 pub returns-clause-ok : goal.returns-clause-ok
 returns-clause-ok c =
@@ -21,3 +21,6 @@ returns-clause-ok c =
 
 pub returns-clause-cause : goal.returns-clause-cause
 returns-clause-cause c = c.convert_functions.ensures.cause (D.data_of c.args.ctx.now c.args.«module».0.0) (ap (functions_in c.args.ctx.now) (sym (c.as_slice.ensures.value ∙ c.in_ok-ops.ensures.ops)))
+
+pub convert_functions-requires-clause-structs : goal.convert_functions-requires-clause-structs
+convert_functions-requires-clause-structs c = ap (λ (m : Module). (L.data_of m).structs) c.make_room.ensures ∙ c.requires.structs

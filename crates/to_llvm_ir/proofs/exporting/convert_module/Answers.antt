@@ -23,6 +23,10 @@ pub returns-in_err-convert_structs-clause-cause : goal.returns-in_err-convert_st
 returns-in_err-convert_structs-clause-cause c =
     passed c.from_residual-in_err-convert_structs.result E.NoMemory (IsCause c.args.ctx.now (D.data_of c.args.ctx.now c.args.«module».0.0)) c.from_residual-in_err-convert_structs.ensures.1 tt
 
+pub convert_held_functions-requires-clause-structs : goal.convert_held_functions-requires-clause-structs
+convert_held_functions-requires-clause-structs c =
+    ap (λ (d : L.ModuleData). d.structs) (with_structs _ (structs_of c.args.ctx.now.types) (L.data_of c.in_ok-cctx.cctx.module) (L.data_of c.convert_structs.new.back) c.in_ok-cctx.ensures.module_data c.in_ok-convert_structs.ensures.structs)
+
 pub returns : goal.returns
 returns c =
     let context = c.args.ctx.now in
@@ -42,10 +46,10 @@ returns c =
       exported = exported;
       traces = traces_exported context (Llvm.setting_of (L.data_of back)) (Dialect.setting_of source) source.functions (L.data_of back).functions c.requires.functions exported.functions;
       same = λ distinct only. same_exported context source (L.data_of back) c.requires.functions only exported.functions distinct;
-      form = λ targets. form_exported context root done.stored typed back exported made targets;
+      form = λ targets. form_exported context root done.stored typed back exported made c.know_sound.ensures.sound targets;
       held = held_exported context root done.stored typed back exported made;
       checked = λ distinct targets.
-          checked_of_form back c.know_sound.ensures.sound c.know_sound.ensures.apart (form_exported context root done.stored typed back exported made targets) (distinct_exported context root done.stored typed back exported made distinct)
+          checked_of_form back c.know_sound.ensures.sound c.know_sound.ensures.apart (form_exported context root done.stored typed back exported made c.know_sound.ensures.sound targets) (distinct_exported context root done.stored typed back exported made distinct)
           (few_exported context root done.stored typed back exported made few done.structs.few);
       cause = tt;
     }

@@ -24,7 +24,7 @@ function_type-requires-clause-within c =
 pub function_type-requires-clause-form : goal.function_type-requires-clause-form
 function_type-requires-clause-form c =
     let p = func_parts c.args.ctx.now c.args.op c.requires.form.0 c.requires.form.1 in
-    let form = c.requires.form.2 in
+    let form = c.requires.form.2.0 in
     let same : p.symbol.ty ≡ c.symbol_type.result = same_Some p.symbol.ty c.symbol_type.result (ap (option_map (λ (s : Symbol). s.ty)) (sym p.symbol_is) ∙ c.symbol_type.ensures) in
     subst (λ (t : TypeHandle). IsHeldSignature (type_at (type_trees c.args.ctx.now.types) t)) same (record { result = form.result; params = form.types; is = sym p.type ∙ form.type; returns = form.returns; takes = form.takes; shallow = subst IsShallow p.type form.shallow })
 
@@ -37,7 +37,7 @@ returns c = λ g func_is form order taken.
     let typed = subst (IsTypeOf c.function_type.new.back c.in_ok-ty.ty) (ap (type_at (type_trees c.args.ctx.now.types)) (sym same) ∙ sym p.type) type.tree in
     all_three c.add_function.result function.number function.ok function.data
     (λ f number added made.
-    started c.args.ctx.now c.args.op g form order taken c.args.back.now c.function_type.new.back c.add_function.new.self c.in_ok-ty.ty f c.llvm_name_of.result.now func_is
+    started c.args.ctx.now c.args.op g form order taken c.args.back.now c.function_type.new.back c.add_function.new.self c.in_ok-ty.ty f c.llvm_name_of.result.now c.requires.structs func_is
     (record {
       rest = type.rest;
       same = type.data;

@@ -1,10 +1,11 @@
 -- The constant is what the operation says, of the type of its result.
-use Rattle.std.proofs.Common.{◌≡◌, None}
+use Rattle.std.proofs.Common.{◌≡◌, None, ap, ◌∙◌}
+use Rattle.std.proofs.lemmas.Option.{slice_get_within}
 use Rattle.support.proofs.ResultLaws.{both}
 use Rattle.kinds.proofs.HeldLaws.{held_result_if}
-use Rattle.llvm_core.specs.declared.consts.LLVMConstKind.TheVariants as C
-use Rattle.llvm_core.specs.Consts.{one_form}
+use Rattle.llvm_core.specs.Data.{filled_const}
 use Rattle.dialect_types.specs.Trees.{type_at, type_trees}
+use Rattle.to_llvm_ir.proofs.GrowthLaws.{grows_const}
 use Rattle.to_llvm_ir.proofs.ListLaws.{by_option}
 use Rattle.to_llvm_ir.proofs.OpLaws.{result_there}
 use Rattle.to_llvm_ir.proofs.ConstOpLaws.{filled_parts, filled_some, filled_for}
@@ -31,7 +32,7 @@ returns c = λ s next.
     let made = c.in_ok-c.ensures in
     let m = c.value_type.new.back in
     let tree = type_at (type_trees c.args.ctx.now.types) c.in-Some.ty in
-    let const = filled_for m s.op c.args.fill tree c.in_ok-ty.ty type.sound parts type.tree in
-    both c.set.result c.set.ensures.next c.set.ensures.found (λ _.
-    constant_done c.args.ctx.now c.args.op s c.args.values.now c.args.back.now next tree (one_form m (C.Filled c.args.fill c.in_ok-ty.ty)) c.in_ok-c.c m c.const_get.new.self c.set.new.self
-    const type.grows type.rest type.data made.interned made.rest made.data made.sound)
+    let there = slice_get_within c.const_get.new.self.consts c.in_ok-c.c.0 _ made.interned.here in
+    let const = filled_for c.const_get.new.self s.op c.args.fill tree c.in_ok-c.c made.sound parts there (made.form ∙ ap (filled_const c.args.fill) type.tree.1) in
+    both c.set.result c.set.ensures.next c.set.ensures.found
+    (λ _. constant_done c.args.ctx.now c.args.op s c.args.values.now c.args.back.now next tree c.in_ok-c.c m c.const_get.new.self c.set.new.self const type.grows type.rest type.data (grows_const m c.const_get.new.self _ c.in_ok-c.c.0 made.interned made.rest) made.rest made.data made.sound)

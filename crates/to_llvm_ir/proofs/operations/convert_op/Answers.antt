@@ -14,7 +14,7 @@ convert_constant-requires-clause-spot c =
     (s.0, s.1)
 
 pub convert_constant-requires-clause-kind : goal.convert_constant-requires-clause-kind
-convert_constant-requires-clause-kind c = c.op_kind.ensures.kind ∙ ap Some c.in-Constant.is
+convert_constant-requires-clause-kind c = rw c.attr.ensures (c.op_kind.ensures.kind ∙ ap Some c.in-Constant.is)
 
 pub convert_row-requires : goal.convert_row-requires
 convert_row-requires c =

@@ -1,8 +1,8 @@
 -- What `dialect_body::block` owes besides what the check finds.
-use Rattle.std.proofs.Common.{List, length, sym, subst, ◌∙◌}
+use Rattle.std.proofs.Common.{List, sym, subst, ◌∙◌}
 use Rattle.dialect_core.specs.declared.numbers.OpRef.{OpRef}
 use Rattle.tracing.specs.DialectBodies.{AreOpsIn}
-use Rattle.tracing.proofs.DialectEdgeLaws.{block_is, edges_typed}
+use Rattle.tracing.proofs.DialectEdgeLaws.{block_is, edges_known}
 use Rattle.tracing.proofs.DialectBlockLaws.{ops_are}
 use Rattle.tracing.proofs.dialect_body.block.Goals as goal
 
@@ -27,4 +27,4 @@ returns-clause-is c = λ setting h y at numbers later more.
     let second = subst (λ (rs : List OpRef). AreOpsIn c.args.ctx.now h rs y.ops) (sym (c.as_slice-2.ensures.value ∙ c.in_ok-ops.ensures)) ops in
     let rows = c.in_ok-rows.ensures.rows setting h y.ops first later more in
     let edges = c.in_ok-edges.ensures h y.ops second in
-    (block_is later setting c.args.ctx.now h _ y c.args.places.now numbers rows.0 edges, (rows.1, edges_typed (length later) c.args.places.now _ _ edges))
+    (block_is later setting c.args.ctx.now h _ y c.args.places.now numbers rows.0 edges, (rows.1, edges_known later c.args.places.now _ _ edges))

@@ -1,37 +1,41 @@
 -- What `dialect_rows::action` owes besides what the check finds.
-use Rattle.std.proofs.Common.{Some, ap, refl, sym, subst, ◌∙◌}
+use Rattle.std.proofs.Common.{Some, length, ap, refl, sym, subst, ◌∙◌}
 use Rattle.std.proofs.lemmas.Option.{same_Some}
 use Rattle.std.proofs.lemmas.Result.{IfOk-weaker}
-use Rattle.dialect_types.specs.Trees.{type_trees}
-use Rattle.const_attrs.specs.Trees.{attr_tree, attr_data}
+use Rattle.dialect_types.specs.Trees.{IsStored, type_trees}
+use Rattle.const_attrs.specs.Trees.{HasTypesBelow, attr_tree, attr_data}
+use Rattle.const_attrs.specs.declared.const_attr.ConstAttr.{ConstAttr}
 use Rattle.dialect_core.specs.declared.ops.OpKind.TheVariants as O
-use Rattle.dialect_core.specs.Data.{ConstantOp, FilledOp, RowOp, type_in}
-use Rattle.dialect_core.specs.Rules.{IsOfKind}
-use Rattle.dialect_core.proofs.RuleLemmas.{constant_integer}
-use Rattle.tracing.specs.TypePlaces.{trees_in}
+use Rattle.dialect_core.specs.Data.{ConstantOp, FilledOp, RowOp}
+use Rattle.tracing.specs.Table.{IsTermAt}
+use Rattle.tracing.specs.Tables.{contents_in}
+use Rattle.tracing.specs.DialectBodies.{HasTypesOfValues, term_of}
+use Rattle.tracing.specs.declared.body.Action.TheVariants as A
 use Rattle.tracing.specs.Bodies.{IsAction}
+use Rattle.tracing.proofs.FirstClassLaws.{constant_of_values}
+use Rattle.tracing.proofs.GrowLaws.{held_action}
 use Rattle.tracing.proofs.DialectLaws.{constant_within, kind_kept, action_of_kind}
 use Rattle.tracing.proofs.dialect_rows.action.Goals as goal
 
 pub constant-requires-clause-within : goal.constant-requires-clause-within
 constant-requires-clause-within c =
     let r = c.requires.here in
-    constant_within c.args.ctx.now c.args.op r.1 c.in-Constant.value r.0.typed r.2.here (c.op_kind.ensures.kind ∙ ap Some c.in-Constant.is)
+    subst (λ (v : ConstAttr). HasTypesBelow (length c.args.ctx.now.types) (attr_data v)) (sym c.attr.ensures) (constant_within c.args.ctx.now c.args.op r.1 c.in-Constant.value r.0.typed r.2.here (c.op_kind.ensures.kind ∙ ap Some c.in-Constant.is))
 
-pub constant-requires-clause-integer : goal.constant-requires-clause-integer
-constant-requires-clause-integer c =
+pub constant-requires-clause-first_class : goal.constant-requires-clause-first_class
+constant-requires-clause-first_class c =
     let r = c.requires.here in
-    let x = c.args.ctx.now in
-    let tree = attr_tree (type_trees x.types) (attr_data c.in-Constant.value) in
-    let kept = kind_kept x c.args.op r.1 (O.Constant c.in-Constant.value) r.2.here (c.op_kind.ensures.kind ∙ ap Some c.in-Constant.is) in
-    constant_integer (type_in x) r.0.function r.1.operands r.1.result r.1.successors tree (subst (IsOfKind (type_in x) r.0.function r.1.operands r.1.result r.1.successors) (sym (same_Some (ConstantOp tree) r.1.kind kept)) r.2.form)
+    let stored = subst IsStored c.types.ensures c.len-count.ensures.stored in
+    subst (λ (v : ConstAttr). HasTypesOfValues c.args.ctx.now (attr_data v)) (sym c.attr.ensures) (constant_of_values c.args.ctx.now r.0 c.args.op r.1 c.in-Constant.value stored r.2 (c.op_kind.ensures.kind ∙ ap Some c.in-Constant.is))
 
-pub returns-in-Constant-clause-is : goal.returns-in-Constant-clause-is
-returns-in-Constant-clause-is c = λ setting h o at.
+pub returns-in_ok-place-in-Constant-clause-is : goal.returns-in_ok-place-in-Constant-clause-is
+returns-in_ok-place-in-Constant-clause-is c = λ setting h o at.
     let x = c.args.ctx.now in
+    let now = contents_in c.constant.new.tables in
     let value = c.in-Constant.value in
-    subst (IsAction (trees_in c.args.types.now) c.constant.result)
-    (action_of_kind setting x c.args.op o (O.Constant value) (ConstantOp (attr_tree (type_trees x.types) (attr_data value))) at.here (c.op_kind.ensures.kind ∙ ap Some c.in-Constant.is) refl) (c.constant.ensures setting _)
+    let place = c.in_ok-place-in-Constant.place in
+    subst (IsAction now (A.Holds place)) (action_of_kind setting x c.args.op o (O.Constant value) (ConstantOp (attr_tree (type_trees x.types) (attr_data value))) at.here (c.op_kind.ensures.kind ∙ ap Some c.in-Constant.is) refl)
+    (held_action now place _ (subst (λ (v : ConstAttr). IsTermAt now.terms place (term_of setting x v)) c.attr.ensures (c.in_ok-place-in-Constant.ensures.is setting)))
 
 pub filling-requires-clause-here : goal.filling-requires-clause-here
 filling-requires-clause-here c =
@@ -43,7 +47,7 @@ pub returns-in-Filled-clause-is : goal.returns-in-Filled-clause-is
 returns-in-Filled-clause-is c =
     IfOk-weaker c.filling.result _ _
     (λ a f setting h o at.
-    subst (IsAction (trees_in c.filling.new.types) a) (action_of_kind setting c.args.ctx.now c.args.op o (O.Filled c.in-Filled.fill) (FilledOp c.in-Filled.fill) at.here (c.op_kind.ensures.kind ∙ ap Some c.in-Filled.is) refl)
+    subst (IsAction (contents_in c.filling.new.tables) a) (action_of_kind setting c.args.ctx.now c.args.op o (O.Filled c.in-Filled.fill) (FilledOp c.in-Filled.fill) at.here (c.op_kind.ensures.kind ∙ ap Some c.in-Filled.is) refl)
     (f setting h o at))
     c.filling.ensures.is
 
@@ -51,5 +55,5 @@ pub returns-in-Row-clause-is : goal.returns-in-Row-clause-is
 returns-in-Row-clause-is c =
     IfOk-weaker c.applied.result _ _
     (λ a f setting h o at.
-    subst (IsAction (trees_in c.applied.new.types) a) (action_of_kind setting c.args.ctx.now c.args.op o (O.Row c.in-Row.row) (RowOp c.in-Row.row) at.here (c.op_kind.ensures.kind ∙ ap Some c.in-Row.is) refl) (f setting h o at))
+    subst (IsAction (contents_in c.applied.new.tables) a) (action_of_kind setting c.args.ctx.now c.args.op o (O.Row c.in-Row.row) (RowOp c.in-Row.row) at.here (c.op_kind.ensures.kind ∙ ap Some c.in-Row.is) refl) (f setting h o at))
     c.applied.ensures.is

@@ -3,7 +3,8 @@ use Rattle.std.proofs.Common.{subst, All}
 use Rattle.dialect_core.specs.Data.{type_in}
 use Rattle.tracing.specs.DialectBodies.{IsUsed}
 use Rattle.tracing.proofs.DialectLaws.{op_within, operands_kept, used_all, first_class_result, applied_is}
-use Rattle.tracing.proofs.GrowLaws.{all_stay, then_grown}
+use Rattle.tracing.proofs.GrowLaws.{all_stay}
+use Rattle.tracing.proofs.TablesLaws.{grown_then}
 use Rattle.tracing.proofs.dialect_rows.applied.Goals as goal
 
 pub op_operands-values-requires : goal.op_operands-values-requires
@@ -34,9 +35,9 @@ pub returns-clause-is : goal.returns-clause-is
 returns-clause-is c = λ setting h o at.
     let x = c.args.ctx.now in
     let operands = operands_kept x c.args.op o c.op_operands-values.result.now at.here c.op_operands-values.ensures.operands in
-    let stand = all_stay _ _ c.in_ok-result_type.ensures.grown.kept _ _ c.in_ok-operand_types.ensures.stand in
+    let stand = all_stay _ _ c.in_ok-result_type.ensures.grown.kept.0 _ _ c.in_ok-operand_types.ensures.stand in
     applied_is _ setting (type_in x) o c.args.row (record { result = c.in_ok-result_type.result_type; operands = c.in_ok-operand_types.operand_types }) c.in_ok-operands.operands c.op_operands-values.result.now operands
     (c.in_ok-result_type.ensures.stands o at.here) stand (c.in_ok-operands.ensures _)
 
 pub returns-clause-grown : goal.returns-clause-grown
-returns-clause-grown c = then_grown _ _ _ _ c.in_ok-operand_types.ensures.grown c.in_ok-result_type.ensures.grown
+returns-clause-grown c = grown_then _ _ _ _ c.in_ok-operand_types.ensures.grown c.in_ok-result_type.ensures.grown

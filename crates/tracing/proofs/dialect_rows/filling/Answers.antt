@@ -6,8 +6,8 @@ use Rattle.dialect_types.specs.Trees.{TypeTree}
 use Rattle.dialect_types.specs.declared.types.TypeHandle.{TypeHandle}
 use Rattle.meaning.specs.Terms.{filled_term}
 use Rattle.meaning.specs.Dialect.{option_type}
-use Rattle.tracing.specs.TypePlaces.{trees_in}
-use Rattle.tracing.specs.Bodies.{IsHeldAs}
+use Rattle.tracing.specs.Table.{IsTermAt}
+use Rattle.tracing.specs.Tables.{contents_in}
 use Rattle.tracing.proofs.DialectLaws.{op_within, result_within, result_tree, filled_type}
 use Rattle.tracing.proofs.GrowLaws.{held_action}
 use Rattle.tracing.proofs.dialect_rows.filling.Goals as goal
@@ -31,10 +31,10 @@ filled-requires-clause-first_class c =
 
 pub returns-clause-is : goal.returns-clause-is
 returns-clause-is c = λ setting h o at.
-    let trees = trees_in c.filled.new.types in
+    let now = contents_in c.filled.new.tables in
     let tree = result_tree c.args.ctx.now c.args.op o (Some c.in-Some.ty) at.here (c.result_type.ensures ∙ ap (λ (t : Option TypeHandle). Some t) c.in-Some.is) in
-    let held = c.in_ok-held-in-Some.held in
-    held_action trees held _ (subst (λ (t : Option TypeTree). IsHeldAs trees held (filled_term c.args.fill (option_type t))) (sym tree) c.in_ok-held-in-Some.ensures.is)
+    let place = c.in_ok-place-in-Some.place in
+    held_action now place _ (subst (λ (t : Option TypeTree). IsTermAt now.terms place (filled_term c.args.fill (option_type t))) (sym tree) c.in_ok-place-in-Some.ensures.is)
 
 pub unreachable-requires : goal.unreachable-requires
 unreachable-requires c =

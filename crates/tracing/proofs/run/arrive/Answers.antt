@@ -7,10 +7,10 @@ use Rattle.tracing.proofs.run.arrive.Goals as goal
 pub straight-requires : goal.straight-requires
 straight-requires c =
     let h = c.requires.3 in
-    (c.requires.0, _, c.requires.2, c.in_ok-note.ensures.at c.requires.0 (record c.requires.1 { block = c.args.to }) (M.Entered c.args.to) (record { block = refl; count = h.count; typed = h.typed; env = h.env; shown = h.shown }) refl)
+    (c.requires.0, _, c.requires.2, c.in_ok-note.ensures.at c.requires.0 (record c.requires.1 { block = c.args.to }) (M.Entered c.args.to) (record { block = refl; count = h.count; typed = h.typed; constants = h.constants; env = h.env; shown = h.shown }) refl)
 
 pub returns : goal.returns
 returns c =
     on_ok_weaker c.straight.result
-    (λ f trees s typed h. f trees _ typed (c.in_ok-note.ensures.at trees (record s { block = c.args.to }) (M.Entered c.args.to) (record { block = refl; count = h.count; typed = h.typed; env = h.env; shown = h.shown }) refl))
+    (λ f now s typed h. f now _ typed (c.in_ok-note.ensures.at now (record s { block = c.args.to }) (M.Entered c.args.to) (record { block = refl; count = h.count; typed = h.typed; constants = h.constants; env = h.env; shown = h.shown }) refl))
     c.straight.ensures

@@ -10,9 +10,9 @@ use Rattle.tracing.proofs.run.build.Goals as goal
 pub returns : goal.returns
 returns c =
     on_ok_weaker c.set.result
-    (λ f trees s ts below h named.
-    let expr = λ (us : List Term). Expr c.args.op (type_at trees c.args.types.now.result) (terms_of us) in
-    let at = rw c.from_vec.ensures at (c.in_ok-place.ensures.named trees) in
-    f trees s (expr ts) (c.in_ok-place.ensures.at trees s below.0 h)
-    (subst (λ (us : List Term). Names trees c.intern.new.run.table c.in_ok-place.place (expr us)) (named_terms trees c.args.run.now.table c.args.places.items ts named) at))
+    (λ f now s ts below h named.
+    let expr = λ (us : List Term). Expr c.args.op (type_at now.types c.args.types.now.result) (terms_of us) in
+    let at = rw c.from_vec.ensures at (c.in_ok-place.ensures.named now.types) in
+    f now s (expr ts) (c.in_ok-place.ensures.at now s below.0 h)
+    (subst (λ (us : List Term). Names now.types c.intern.new.run.table c.in_ok-place.place (expr us)) (named_terms now.types c.args.run.now.table c.args.places.items ts named) at))
     c.set.ensures.at

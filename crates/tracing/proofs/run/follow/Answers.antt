@@ -10,8 +10,8 @@ arrive-requires c =
 pub returns : goal.returns
 returns c =
     on_ok_weaker c.arrive.result
-    (λ f trees s edge target h.
-    let m = rw c.as_slice.ensures at (c.in_ok-move_all.ensures trees s (rw c.as_slice.ensures edge) h) in
+    (λ f now s edge target h.
+    let m = rw c.as_slice.ensures at (c.in_ok-move_all.ensures now s (rw c.as_slice.ensures edge) h) in
     let a = rw c.as_slice-2.ensures at f in
-    a trees _ target.0 m)
+    a now _ target.0 m)
     c.arrive.ensures

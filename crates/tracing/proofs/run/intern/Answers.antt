@@ -6,7 +6,7 @@ use Rattle.tracing.proofs.RunLaws.{grown_keeps, grown_at}
 use Rattle.tracing.proofs.run.intern.Goals as goal
 
 pub returns-clause-at : goal.returns-clause-at
-returns-clause-at c = both c.intern.result c.intern.ensures.gives c.intern.ensures.typed (λ k g typed trees s here h. grown_at trees _ _ refl refl refl refl (grown_keeps trees _ _ (g trees).more (g trees).grown) (typed (length trees) h.typed here) s h)
+returns-clause-at c = both c.intern.result c.intern.ensures.gives c.intern.ensures.typed (λ k g typed now s here h. grown_at now _ _ refl refl refl refl (grown_keeps now.types _ _ (g now.types).more (g now.types).grown) (typed (length now.types) h.typed here) s h)
 
 pub returns-clause-named : goal.returns-clause-named
 returns-clause-named c = IfOk-weaker c.intern.result _ _ (λ k g trees. (g trees).here) c.intern.ensures.gives

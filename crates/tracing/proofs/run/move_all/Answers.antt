@@ -7,7 +7,7 @@ use Rattle.tracing.proofs.run.move_all.Goals as goal
 pub returns : goal.returns
 returns c =
     on_ok_weaker c.set_all.result
-    (λ f trees s typed h.
-    let r = c.in_ok-places.ensures.at trees s typed h in
-    moved_at trees c.set_all.new.run s c.args.params.now c.args.sources.now (f trees s (taken s.env (moves_from trees 0 c.args.params.now c.args.sources.now)) r.0 (rw c.as_slice.ensures.value r.1)))
+    (λ f now s typed h.
+    let r = c.in_ok-places.ensures.at now s typed h in
+    moved_at now c.set_all.new.run s c.args.params.now c.args.sources.now (f now s (taken s.env (moves_from now.terms 0 c.args.params.now c.args.sources.now)) r.0 (rw c.as_slice.ensures.value r.1)))
     c.set_all.ensures

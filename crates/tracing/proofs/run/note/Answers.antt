@@ -4,4 +4,4 @@ use Rattle.tracing.proofs.RunLaws.{note_at}
 use Rattle.tracing.proofs.run.note.Goals as goal
 
 pub returns-clause-at : goal.returns-clause-at
-returns-clause-at c = λ trees. note_at trees _ _ c.args.item refl refl refl refl c.in_ok-push.ensures.items
+returns-clause-at c = λ now. note_at now _ _ c.args.item refl refl refl refl c.in_ok-push.ensures.items

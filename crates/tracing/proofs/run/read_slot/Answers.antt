@@ -12,4 +12,4 @@ pub returns-in-None-clause-at : goal.returns-in-None-clause-at
 returns-in-None-clause-at c =
     let none : get same_slot c.args.run.now.env c.args.slot ≡ None = cc (c.get.ensures.value, c.copied-found.ensures, c.in-None.is) in
     both c.intern.result c.intern.ensures.at c.intern.ensures.named
-    (λ k at named trees s h. (at trees s tt h, subst (λ (t : Term). Names trees c.intern.new.run.table k t) (sym (read_none trees c.args.run.now s c.args.slot h none)) (named trees)))
+    (λ k at named now s h. (at now s tt h, subst (λ (t : Term). Names now.types c.intern.new.run.table k t) (sym (read_none now c.args.run.now s c.args.slot h none)) (named now.types)))

@@ -11,18 +11,18 @@ use Rattle.tracing.proofs.run.set_all.Goals as goal
 pub loop-at-preserved : goal.loop-at-preserved
 loop-at-preserved c = record {
   table = c.in_ok-set.ensures.table ∙ c.loop-at.invariant.table;
-  at = λ trees s ts h named.
-      let v = c.loop-at.invariant.at trees s ts h named in
-      let count = named_length trees c.args.run.now.table c.args.places.now ts named in
+  at = λ now s ts h named.
+      let v = c.loop-at.invariant.at now s ts h named in
+      let count = named_length now.types c.args.run.now.table c.args.places.now ts named in
       let in_places : c.loop-at.at < length c.args.places.now = omega (arith, c.requires, c.loop-at-test.true) in
       let in_terms : c.loop-at.at < length ts = omega (arith, count, in_places) in
-      let here : Names trees c.loop-at.run.table (get_or c.args.places.now c.loop-at.at 0) (get_or ts c.loop-at.at Unset) = rw c.loop-at.invariant.table (named_at trees c.args.run.now.table c.args.places.now ts c.loop-at.at 0 Unset in_places named) in
+      let here : Names now.types c.loop-at.run.table (get_or c.args.places.now c.loop-at.at 0) (get_or ts c.loop-at.at Unset) = rw c.loop-at.invariant.table (named_at now.types c.args.run.now.table c.args.places.now ts c.loop-at.at 0 Unset in_places named) in
       let step = set_step s.env c.args.slots.now ts c.loop-at.at (Input 0 0) Unset c.loop-at-test.true in_terms in
-      at_alike trees c.set.new.run _ _ refl (λ w. ap (λ (f : Slot → Term). f w) step) refl refl (c.in_ok-set.ensures.at trees _ (get_or ts c.loop-at.at Unset) v here);
+      at_alike now c.set.new.run _ _ refl (λ w. ap (λ (f : Slot → Term). f w) step) refl refl (c.in_ok-set.ensures.at now _ (get_or ts c.loop-at.at Unset) v here);
 }
 
 pub returns : goal.returns
-returns c = λ trees s ts h named.
-    let count = named_length trees c.args.run.now.table c.args.places.now ts named in
-    let v = c.loop-at.invariant.at trees s ts h named in
-    with_all trees c.loop-at.run s c.args.slots.now ts c.loop-at.at (omega arith) (omega (arith, count, c.requires)) v
+returns c = λ now s ts h named.
+    let count = named_length now.types c.args.run.now.table c.args.places.now ts named in
+    let v = c.loop-at.invariant.at now s ts h named in
+    with_all now c.loop-at.run s c.args.slots.now ts c.loop-at.at (omega arith) (omega (arith, count, c.requires)) v

@@ -11,12 +11,12 @@ use Rattle.tracing.proofs.run.set_inputs.Goals as goal
 
 pub loop-place-preserved : goal.loop-place-preserved
 loop-place-preserved c = record {
-  at = λ trees.
-      at_alike trees c.set.new.run _ _ refl (start_step c.args.holder c.loop-place.place) refl refl
-      (c.in_ok-set.ensures.at trees _ (Param c.loop-place.place) (c.in_ok-term.ensures.at trees _ tt (c.loop-place.invariant.at trees)) (c.in_ok-term.ensures.named trees));
+  at = λ now h.
+      at_alike now c.set.new.run _ _ refl (start_step c.args.holder c.loop-place.place) refl refl
+      (c.in_ok-set.ensures.at now _ (Param c.loop-place.place) (c.in_ok-term.ensures.at now _ tt (c.loop-place.invariant.at now h)) (c.in_ok-term.ensures.named now.types));
 }
 
 pub returns : goal.returns
-returns c = λ trees.
+returns c = λ now h.
     let all : c.loop-place.place ≡ c.args.inputs = omega arith in
-    subst (λ (n : ℕ). IsAt trees c.loop-place.run (M.begin Slot same_slot (start_of c.args.holder n))) all (c.loop-place.invariant.at trees)
+    subst (λ (n : ℕ). IsAt now c.loop-place.run (M.begin Slot same_slot (start_of c.args.holder n))) all (c.loop-place.invariant.at now h)

@@ -1,11 +1,10 @@
 -- What holds in the loop of `run::set_inputs`.
-use Rattle.std.specs.Prelude.{List}
 use Rattle.meaning.specs.Machine as M
+use Rattle.tracing.specs.Contents.{Contents}
 use Rattle.tracing.specs.declared.body.Slot.{Slot}
 use Rattle.tracing.specs.Bodies.{same_slot, start_of}
 use Rattle.tracing.specs.Runs.{IsAt}
-use Rattle.llvm_core.specs.Data.{TypeTree}
 use Rattle.tracing.proofs.run.set_inputs.Given as goal
 
 abbrev pub invariant-loop-place : goal.invariant-loop-place
-invariant-loop-place l = record { at : (trees : List TypeTree) → IsAt trees l.run (M.begin Slot same_slot (start_of l.holder l.place)) }
+invariant-loop-place l = record { at : (now : Contents) → IsAt now l.fn.run (M.begin Slot same_slot (start_of l.holder 0)) → IsAt now l.run (M.begin Slot same_slot (start_of l.holder l.place)) }

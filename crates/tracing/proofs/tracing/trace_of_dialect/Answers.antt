@@ -25,5 +25,6 @@ dialect_body-requires c = (in_context c.args.ctx.now c.args.«module».0.0 c.arg
 
 pub trace_body-requires : goal.trace_body-requires
 trace_body-requires c = record {
-  typed = c.in_ok-body.ensures.typed (in_context c.args.ctx.now c.args.«module».0.0 c.args.f.0 c.requires.typed c.requires.well_formed c.requires.body) refl;
+  known = c.in_ok-body.ensures.known (in_context c.args.ctx.now c.args.«module».0.0 c.args.f.0 c.requires.typed c.requires.well_formed c.requires.body) refl;
+  typed = c.in_ok-body.ensures.typed;
 }

@@ -15,5 +15,6 @@ returns-clause-exact c =
 
 pub trace_body-requires : goal.trace_body-requires
 trace_body-requires c = record {
-  typed = c.in_ok-body.ensures.typed (in_checked c.args.«module».now c.args.f.0 c.functions-count.ensures.sound c.requires.checked c.requires.function) refl;
+  known = c.in_ok-body.ensures.known (in_checked c.args.«module».now c.args.f.0 c.functions-count.ensures.sound c.requires.checked c.requires.function) refl;
+  typed = c.in_ok-body.ensures.typed;
 }
