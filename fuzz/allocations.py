@@ -6,8 +6,8 @@
 Over each file (six of the examples, where none is named) it counts the allocations of
 `round_ll round`, and then runs it once for each of them with that one failing. A run has to end with status 8,
 its line and no output, or just as with ample memory. And for one function of 20,000 instructions it may ask for memory
-at most three times as often as for one of 200: what grows are vectors, not rows. It needs a C compiler and a loader that
-knows LD_PRELOAD.
+at most three times as often as for one of 200, where both have as many constants: what grows are vectors, not rows. A constant
+may ask once more, since its attribute lies apart from its operation. It needs a C compiler and a loader that knows LD_PRELOAD.
 """
 import collections
 import os
@@ -40,19 +40,21 @@ def counted(shim, folder, text):
     return ample, int(pathlib.Path(count_file).read_text())
 
 
-def adds(count):
-    """A function of so many named additions, each of a constant."""
-    lines = "".join(f"  %x{k + 1} = add nsw i32 %x{k}, {k}\n" for k in range(count))
+def adds(count, constants):
+    """A function of so many named additions, each of one of so many constants."""
+    lines = "".join(f"  %x{k + 1} = add nsw i32 %x{k}, {k % constants}\n" for k in range(count))
     return f"define i32 @f(i32 %x0) {{\n{lines}  ret i32 %x{count}\n}}\n".encode()
 
 
 def growth(shim, folder):
-    """Prints a line on what instructions ask for, and answers 1 where that grows with them."""
-    runs = [counted(shim, folder, adds(count)) for count in (200, 20000)]
-    few, many = (asked for _, asked in runs)
-    well = all(done.returncode == 0 for done, _ in runs) and many <= 3 * few
-    print(f"200 instructions: {few} allocations; 20,000: {many}; {0 if well else 1} faults")
-    return 0 if well else 1
+    """Prints a line on what instructions ask for, and one on what constants do, and answers how many of them ask too often."""
+    runs = [counted(shim, folder, adds(*it)) for it in ((200, 100), (20000, 100), (20000, 20000))]
+    few, many, each = (asked for _, asked in runs)
+    ended = all(done.returncode == 0 for done, _ in runs)
+    faults = int(not ended or many > 3 * few), int(each > many + 20000)
+    print(f"200 instructions: {few} allocations; 20,000: {many}; {faults[0]} faults")
+    print(f"100 constants: {many} allocations; 20,000: {each}; {faults[1]} faults")
+    return sum(faults)
 
 
 def faults_of(shim, folder, path):

@@ -8,13 +8,27 @@ from made_constants import Chars, Listed, Splat
 from names import bytes_said, name_said, text_said
 from value_types import (
     BIT, COUNTS, DEEPEST, FLOATING, LACKED, LENGTHS, MAX_VALUE, MAX_WIDTH, SPACES,
-    Array, Floating, Integer, Lacked, Named, Pointer, Struct, Vector, depth, filled, is_element, is_field, is_integer, is_item,
+    Array, Floating, Integer, Lacked, Named, Pointer, Struct, Vector, depth, filled, in_lanes, is_element, is_field, is_integer, is_item,
+    is_pointer, lanes_of,
 )
 
 PREDICATES = "eq ne ugt uge ult ule sgt sge slt sle".split()
 FLAGGED = "add sub mul shl".split()  # of two operands of one type, with flags
 BINARY = FLAGGED + "udiv sdiv urem srem lshr ashr and or xor".split()
-CASTS = {"trunc": lambda of, to: to < of, "sext": lambda of, to: of < to, "zext": lambda of, to: of < to}  # of widths
+
+
+def are_integers(of, to):
+    return is_integer(of) and is_integer(to)
+
+
+CASTS = {  # of one lane
+    "trunc": lambda of, to: are_integers(of, to) and to.width < of.width,
+    "sext": lambda of, to: are_integers(of, to) and of.width < to.width,
+    "zext": lambda of, to: are_integers(of, to) and of.width < to.width,
+    "ptrtoint": lambda of, to: is_pointer(of) and is_integer(to),
+    "inttoptr": lambda of, to: is_integer(of) and is_pointer(to),
+    "addrspacecast": lambda of, to: is_pointer(of) and is_pointer(to) and of != to,
+}
 ENDS = ("ret", "br", "cond_br", "unreachable")
 
 
@@ -307,10 +321,10 @@ class Reader:
         type = self.type()
         return self.value(type), type
 
-    def pair(self):
-        """Two integers of one type, each with it."""
+    def pair(self, fits):
+        """Two values of one type, each with it, whose lanes pass the test."""
         type = self.type()
-        need(is_integer(type), f"an operation on {type}")
+        need(fits(lanes_of(type)[1]), f"an operation on {type}")
         left = self.value(type)
         self.want(",")
         return [(left, type), (self.value(type), type)]
@@ -333,19 +347,22 @@ class Reader:
         word = self.take("word")
         if word in BINARY:
             flags = [flag for flag in ("nuw", "nsw") if word in FLAGGED and self.skip(flag)]
-            values = self.pair()
+            values = self.pair(is_integer)
             return self.row(word, given, values[0][1], values, flags=flags)
         if word == "icmp":
             predicate = self.take("word")
             need(predicate in PREDICATES, "predicate")
-            return self.row(word, given, BIT, self.pair(), predicate=predicate)
+            values = self.pair(lambda lane: is_integer(lane) or is_pointer(lane))
+            return self.row(word, given, in_lanes(lanes_of(values[0][1])[0], BIT), values, predicate=predicate)
         if word in CASTS:
             return self.cast(word, given)
         if word == "select":
-            values = [self.condition()]
+            values = [self.typed()]
             for _ in range(2):
                 self.want(",")
                 values.append(self.typed())
+            count, bit = lanes_of(values[0][1])
+            need(bit == BIT and count in (None, lanes_of(values[1][1])[0]), "the condition of a select")
             need(values[1][1] == values[2][1], "the types of a select")
             return self.row(word, given, values[1][1], values)
         if word == "freeze":
@@ -361,7 +378,8 @@ class Reader:
         value, of = self.typed()
         self.want("to")
         to = self.type()
-        need(is_integer(of) and is_integer(to) and CASTS[word](of.width, to.width), "the types of a cast")
+        (lanes, lane), (others, other) = lanes_of(of), lanes_of(to)
+        need(lanes == others and CASTS[word](lane, other), "the types of a cast")
         return self.row(word, given, to, [(value, of)], flags=flags, to=to)
 
     def phi(self, given):

@@ -204,6 +204,20 @@ class Held:
             self.made.append(type.name)
 
 
+def lanes_of(type):
+    """How many lanes a type has, of which kind, and the type of one: what is no vector is one lane."""
+    return ((type.scalable, type.count), type.element) if isinstance(type, Vector) else (None, type)
+
+
+def in_lanes(lanes, type):
+    """So many lanes of a type."""
+    return type if lanes is None else Vector(*lanes, type)
+
+
+def is_pointer(type):
+    return isinstance(type, Pointer)
+
+
 def is_integer(type):
     return isinstance(type, Integer)
 

@@ -9,9 +9,9 @@ use Rattle.kinds.specs.declared.op.Op.{Op}
 use Rattle.kinds.specs.declared.rules.Gives.{Gives}
 use Rattle.kinds.specs.declared.rules.Gives.TheVariants as G
 use Rattle.kinds.specs.declared.fitting.TypeView.{TypeView}
-use Rattle.kinds.specs.Types.{shape, same_tree}
+use Rattle.kinds.specs.Types.{laned, same_tree}
 use Rattle.kinds.specs.Table.{rule_of}
-use Rattle.kinds.specs.Fitting.{fits, view_shape, view_same}
+use Rattle.kinds.specs.Fitting.{fits, view_laned, view_same}
 use Rattle.kinds.specs.Typing.{written_for}
 use Rattle.kinds.proofs.TypeLaws.{tree_self, tree_told}
 use Rattle.kinds.proofs.FittingLaws.{fits_kept}
@@ -38,14 +38,14 @@ written_mapped h G.Nothing own = refl
 written_mapped h G.First own = refl
 written_mapped h G.Second own = refl
 written_mapped h G.Written own = refl
-written_mapped h G.Bit own = refl
+written_mapped h G.Bits own = refl
 
 pub written_kept : {X : Type 0} (P : X → Type 0) (k : Gives) (own : Option X) → IfSome own P → IfSome (written_for k own) P
 written_kept P G.Nothing own h = tt
 written_kept P G.First own h = tt
 written_kept P G.Second own h = tt
 written_kept P G.Written own h = h
-written_kept P G.Bit own h = tt
+written_kept P G.Bits own h = tt
 
 -- ---- fitting
 
@@ -54,7 +54,7 @@ module _ (c : ContextData) (distinct : IsDistinctAsTrees c.types) where
   named t = tree_at c (record { 0 = t.number })
 
   abbrev IsGood : TypeView → Type 0
-  IsGood t = (t.number < length c.types) × (t.shape ≡ shape (named t))
+  IsGood t = (t.number < length c.types) × (t.laned ≡ laned (named t))
 
   told : (a b : TypeView) → IsGood a → IsGood b → same_tree (named a) (named b) ≡ view_same a b
   told a b g h = bool_by (same_tree (named a) (named b)) (view_same a b)
@@ -62,7 +62,7 @@ module _ (c : ContextData) (distinct : IsDistinctAsTrees c.types) where
       (λ e. let same : a.number ≡ b.number = eqb-true a.number b.number e in subst (λ (n : ℕ). same_tree (named a) (tree_at c (record { 0 = n })) ≡ true) same (tree_self (named a)))
 
   abbrev view : TypeHandle → TypeView
-  view t = record { number = t.0; shape = shape (tree_at c t) }
+  view t = record { number = t.0; laned = laned (tree_at c t) }
 
   abbrev IsThere : Option TypeHandle → Type 0
   IsThere o = IfSome o (λ (t : TypeHandle). t.0 < length c.types)
@@ -78,11 +78,11 @@ module _ (c : ContextData) (distinct : IsDistinctAsTrees c.types) where
   -- views of the types of the first three values fit just where their trees do, beside the type that is written
   pub fits_by_tree : (op : Op) (vs : List Value) (own a b d : Option TypeHandle) → option_map (tree_at c) a ≡ type_nth (type_in c) vs 0 → option_map (tree_at c) b ≡ type_nth (type_in c) vs 1 → option_map (tree_at c) d ≡ type_nth (type_in c) vs 2
       → IsThere own → IsThere a → IsThere b → IsThere d
-      → fits view_shape view_same (rule_of op) (length vs) (option_map view (written_for (rule_of op).gives own)) (option_map view a) (option_map view b) (option_map view d) ≡ row_fits (type_in c) op (option_map (tree_at c) own) vs
+      → fits view_laned view_same (rule_of op) (length vs) (option_map view (written_for (rule_of op).gives own)) (option_map view a) (option_map view b) (option_map view d) ≡ row_fits (type_in c) op (option_map (tree_at c) own) vs
   fits_by_tree op vs own a b d is_a is_b is_d in_own in_a in_b in_d =
       let w = written_for (rule_of op).gives own in
       let in_w : IsThere w = written_kept (λ (t : TypeHandle). t.0 < length c.types) (rule_of op).gives own in_own in
-      let e = fits_kept view_shape view_same shape same_tree named IsGood (λ t g. sym g.1) told (rule_of op) (length vs) (option_map view w) (option_map view a) (option_map view b) (option_map view d) (good_some w in_w) (good_some a in_a) (good_some b in_b) (good_some d in_d) in
+      let e = fits_kept view_laned view_same laned same_tree named IsGood (λ t g. sym g.1) told (rule_of op) (length vs) (option_map view w) (option_map view a) (option_map view b) (option_map view d) (good_some w in_w) (good_some a in_a) (good_some b in_b) (good_some d in_d) in
       let u = named_some w ∙ written_mapped (tree_at c) (rule_of op).gives own in
       let x = named_some a ∙ is_a in
       let y = named_some b ∙ is_b in

@@ -4,7 +4,7 @@ use Rattle.std.specs.Option.{option_and_then}
 use Rattle.kinds.specs.declared.op.Op.{Op}
 use Rattle.kinds.specs.declared.rules.Takes.{Takes}
 use Rattle.kinds.specs.declared.rules.Takes.TheVariants as O
-use Rattle.kinds.specs.Types.{TypeTree, shape, same_tree, result_of}
+use Rattle.kinds.specs.Types.{TypeTree, laned, same_tree, result_of}
 use Rattle.kinds.specs.Held.{is_void, IsFirstClass}
 use Rattle.kinds.specs.Rules.{operand_count, target_count}
 use Rattle.kinds.specs.Table.{rule_of}
@@ -66,7 +66,7 @@ IsReturning O.Return types type vs = All (λ (v : Value). types v ≡ Some type)
 
 -- the types of the operands fit the row, beside the type of its result where that is one that it writes
 abbrev pub row_fits : Typing → Op → (own : Option TypeTree) → List Value → Bool
-row_fits types op own vs = fits shape same_tree (rule_of op) (length vs) (written_for (rule_of op).gives own) (type_nth types vs 0) (type_nth types vs 1) (type_nth types vs 2)
+row_fits types op own vs = fits laned same_tree (rule_of op) (length vs) (written_for (rule_of op).gives own) (type_nth types vs 0) (type_nth types vs 1) (type_nth types vs 2)
 
 -- the type that the row gives its result, None where there is none
 abbrev pub row_result : Typing → Op → (own : Option TypeTree) → List Value → Option TypeTree

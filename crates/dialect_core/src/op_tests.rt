@@ -3,7 +3,7 @@
 ghost use Rattle.std.specs.Prelude.{◌≡◌, ◌<◌, ◌↔◌, IsTrue, true, All, IfSome, Some, length};
 ghost use Rattle.std.specs.Option.{option_map, option_map_or};
 ghost use Rattle.kinds.specs.Rules.{operand_count};
-ghost use Rattle.kinds.specs.Types.{TypeTree, IntType, VoidType, shape, result_of as returned_by};
+ghost use Rattle.kinds.specs.Types.{TypeTree, VoidType, shape, laned, bits_of, result_of as returned_by};
 ghost use Rattle.kinds.specs.Held.{IsFirstClass};
 ghost use Rattle.kinds.specs.Typing.{written_for};
 ghost use Rattle.dialect_types.specs.Trees.{type_at, type_trees};
@@ -16,7 +16,7 @@ ghost use Rattle.dialect_core.specs.Checking.{IsConstantOf, IsKindAt, IsOpAt, en
 use crate::context::Context;
 use crate::numbers::OpRef;
 use crate::ops::{OpKind, Successor, Value};
-use crate::type_tests::{is_bit, is_first_class, same_type, shape_at};
+use crate::type_tests::{is_bits_of, is_first_class, laned_at, same_type, shape_at};
 use crate::value_tests::{edges_fit, has_type, type_of};
 use const_attrs::const_attr::ConstAttr;
 use dialect_types::type_store::TypeStore;
@@ -53,12 +53,12 @@ fn type_nth(ctx: &Context, values: &[Value], place: usize) -> Option<TypeHandle>
 /// A type as rules see it.
 fn view_some(ctx: &Context, ty: Option<TypeHandle>) -> Option<TypeView>
     requires { IfSome ty (λ t. t.0 < length ctx.now.types) }
-    ensures { result ≡ option_map (λ t. record { number = t.0; shape = shape (tree_at ctx.now t) }) ty }
+    ensures { result ≡ option_map (λ t. record { number = t.0; laned = laned (tree_at ctx.now t) }) ty }
 {
     match ty {
         Some(ty) => Some(TypeView {
             number: ty.0,
-            shape: shape_at(ctx.types(), ty),
+            laned: laned_at(ctx.types(), ty),
         }),
         None => None,
     }
@@ -73,7 +73,7 @@ fn written_for(gives: Gives, own: Option<TypeHandle>) -> Option<TypeHandle>
         Gives::Nothing => None,
         Gives::First => None,
         Gives::Second => None,
-        Gives::Bit => None,
+        Gives::Bits => None,
     }
 }
 
@@ -105,7 +105,7 @@ fn is_given(ctx: &Context, op: Op, operands: &[Value], own: Option<TypeHandle>) 
         Gives::First => same_option(ctx, own, type_nth(ctx, operands, 0)),
         Gives::Second => same_option(ctx, own, type_nth(ctx, operands, 1)),
         Gives::Written => true,
-        Gives::Bit => gives_bit(ctx.types(), own),
+        Gives::Bits => gives_bits(ctx.types(), own, type_nth(ctx, operands, 0)),
     }
 }
 
@@ -122,14 +122,16 @@ fn same_option(ctx: &Context, a: Option<TypeHandle>, b: Option<TypeHandle>) -> b
     }
 }
 
-/// Whether an operation has the type of one bit.
-fn gives_bit(types: &TypeStore, own: Option<TypeHandle>) -> bool
-    requires { IfSome own (λ t. t.0 < length types.now) }
-    ensures { IsTrue result ↔ option_map (type_at (type_trees types.now)) own ≡ Some (IntType 1) }
+/// Whether an operation has the type of bits, as many as its first operand has lanes, or there is neither.
+fn gives_bits(types: &TypeStore, own: Option<TypeHandle>, first: Option<TypeHandle>) -> bool
+    requires own { IfSome own (λ t. t.0 < length types.now) }
+    requires first { IfSome first (λ t. t.0 < length types.now) }
+    ensures { IsTrue result ↔ option_map (type_at (type_trees types.now)) own ≡ option_map bits_of (option_map (type_at (type_trees types.now)) first) }
 {
-    match own {
-        Some(ty) => is_bit(types, ty),
-        None => false,
+    match (own, first) {
+        (Some(ty), Some(of)) => is_bits_of(types, ty, of),
+        (None, None) => true,
+        _ => false,
     }
 }
 

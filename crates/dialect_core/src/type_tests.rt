@@ -1,9 +1,9 @@
 //! Tests of types: what they may stand for, and whether they are the same.
 
 ghost use Rattle.std.specs.Prelude.{◌≡◌, ◌<◌, ◌^◌, ◌↔◌, IsTrue, All, length, map};
-ghost use Rattle.kinds.specs.Types.{shape, params_of};
+ghost use Rattle.kinds.specs.Types.{shape, laned, bits_of, params_of};
 ghost use Rattle.kinds.specs.Held.{width_in, IsFirstClass, IsReturned, IsHeld, IsHeldResult, IsShortWidth, IsSignature, IsHeldSignature};
-ghost use Rattle.dialect_types.specs.Trees.{IntType, type_at, type_tree, type_trees};
+ghost use Rattle.dialect_types.specs.Trees.{type_at, type_tree, type_trees};
 ghost use Rattle.const_attrs.specs.Trees.{attr_tree, attr_trees, attr_data, attrs_data, HasTypesBelow, HaveTypesBelow};
 ghost use Rattle.dialect_core.specs.Form.{is_fixed, AreShortAttrs, IsIntegerOf, IsShortAttr, IsShortFill};
 
@@ -12,8 +12,8 @@ use dialect_types::type_store::TypeStore;
 use dialect_types::types::{TypeHandle, TypeKind};
 use kinds::fill::Fill;
 use kinds::fitting;
-use kinds::fitting::Shape;
-use kinds::types::VectorTypeKind;
+use kinds::fitting::{Laned, Shape};
+use kinds::types::{Lanes, VectorTypeKind};
 
 /// The greatest width of an integer constant.
 const MAX_SHORT: u32 = 64;
@@ -41,6 +41,23 @@ pub fn shape_at(types: &TypeStore, ty: TypeHandle) -> Shape
     ensures { result ≡ shape (type_at (type_trees types.now) ty) }
 {
     shape_of(types.kind(ty))
+}
+
+/// The lanes of a type.
+pub fn laned_at(types: &TypeStore, ty: TypeHandle) -> Laned
+    requires { ty.0 < length types.now }
+    ensures { result ≡ laned (type_at (type_trees types.now) ty) }
+{
+    match types.kind(ty) {
+        TypeKind::Vector(element, count, kind) => Laned {
+            lanes: Lanes::Many(*kind, *count),
+            lane: shape_at(types, *element),
+        },
+        kind => Laned {
+            lanes: Lanes::One,
+            lane: shape_of(kind),
+        },
+    }
 }
 
 /// Whether two types are the same.
@@ -86,15 +103,13 @@ pub fn is_held(types: &TypeStore, ty: TypeHandle) -> bool
     fitting::is_held(shape_of(types.kind(ty)))
 }
 
-/// Whether a type is the integer type of one bit.
-pub fn is_bit(types: &TypeStore, ty: TypeHandle) -> bool
-    requires { ty.0 < length types.now }
-    ensures { IsTrue result ↔ type_at (type_trees types.now) ty ≡ IntType 1 }
+/// Whether a type is that of bits, as many as another type has lanes.
+pub fn is_bits_of(types: &TypeStore, ty: TypeHandle, of: TypeHandle) -> bool
+    requires own { ty.0 < length types.now }
+    requires of { of.0 < length types.now }
+    ensures { IsTrue result ↔ type_at (type_trees types.now) ty ≡ bits_of (type_at (type_trees types.now) of) }
 {
-    match types.kind(ty) {
-        TypeKind::Integer(width) => *width == 1,
-        _ => false,
-    }
+    fitting::is_bits_laned(laned_at(types, ty), laned_at(types, of))
 }
 
 /// Whether types are those of values.

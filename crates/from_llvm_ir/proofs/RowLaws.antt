@@ -6,13 +6,13 @@ use Rattle.std.proofs.lemmas.List.Elements.{All-nil, All-cons, All-head, All-tai
 use Rattle.kinds.specs.declared.op.Op.{Op}
 use Rattle.kinds.specs.declared.rules.Gives.{Gives}
 use Rattle.kinds.specs.declared.rules.Gives.TheVariants as G
-use Rattle.kinds.specs.Types.{TypeTree, VoidType, shape, same_tree}
+use Rattle.kinds.specs.Types.{TypeTree, VoidType, laned, bits_of, same_tree}
 use Rattle.kinds.specs.Held.{is_void, own_type, IsFirstClass}
 use Rattle.kinds.specs.Table.{rule_of}
 use Rattle.kinds.specs.Fitting.{is_no_type, is_value_type, is_written, takes_fit}
 use Rattle.kinds.specs.Typing.{fits_trees, typed, given, written_for}
 use Rattle.kinds.proofs.TypeLaws.{and_left}
-use Rattle.kinds.proofs.HeldLaws.{own_of, value_own, first_class_own}
+use Rattle.kinds.proofs.HeldLaws.{own_of, lane_own, bits_own, first_class_own}
 use Rattle.dialect_core.specs.Rules as R
 use Rattle.dialect_core.specs.Rules.{Typing, type_nth, row_fits, row_result}
 use Rattle.dialect_core.specs.declared.ops.Value.{Value}
@@ -35,7 +35,7 @@ if_own P t h = by (is_void t) refl
 
 -- ---- the words of what a row gives
 
-none_from : (w : Option TypeTree) → is_no_type shape same_tree w ≡ true → None ≡ w
+none_from : (w : Option TypeTree) → is_no_type laned same_tree w ≡ true → None ≡ w
 none_from None h = refl
 none_from (Some t) h = cc
 
@@ -43,25 +43,26 @@ first_class_or_none : (a : Option TypeTree) → IfSome a IsFirstClass → own_ty
 first_class_or_none None h = refl
 first_class_or_none (Some t) h = first_class_is_own t h
 
-value_or_none : (w : Option TypeTree) → is_value_type shape same_tree w ≡ true → own_type (unwrap_or w VoidType) ≡ w
+value_or_none : (w : Option TypeTree) → is_value_type laned same_tree w ≡ true → own_type (unwrap_or w VoidType) ≡ w
 value_or_none None h = refl
-value_or_none (Some t) h = own_of t (value_own t h)
+value_or_none (Some t) h = own_of t (lane_own t h)
 
 -- a result has the type that is given, and none where that is none
-given_from : (k : Gives) (w a b : Option TypeTree) → is_written shape same_tree k w ≡ true → IfSome a IsFirstClass → IfSome b IsFirstClass → own_type (unwrap_or (given k w a b) VoidType) ≡ given k w a b
+given_from : (k : Gives) (w a b : Option TypeTree) → is_written laned same_tree k w ≡ true → IfSome a IsFirstClass → IfSome b IsFirstClass → own_type (unwrap_or (given k w a b) VoidType) ≡ given k w a b
 given_from G.Nothing w a b h f s = refl
 given_from G.First w a b h f s = first_class_or_none a f
 given_from G.Second w a b h f s = first_class_or_none b s
 given_from G.Written w a b h f s = value_or_none w h
-given_from G.Bit w a b h f s = refl
+given_from G.Bits w None b h f s = refl
+given_from G.Bits w (Some t) b h f s = own_of (bits_of t) (bits_own t)
 
 -- the type that is written is that of the result, where it is written
-written_from : (k : Gives) (w a b : Option TypeTree) → is_written shape same_tree k w ≡ true → written_for k (given k w a b) ≡ w
+written_from : (k : Gives) (w a b : Option TypeTree) → is_written laned same_tree k w ≡ true → written_for k (given k w a b) ≡ w
 written_from G.Nothing w a b h = none_from w h
 written_from G.First w a b h = none_from w h
 written_from G.Second w a b h = none_from w h
 written_from G.Written w a b h = refl
-written_from G.Bit w a b h = none_from w h
+written_from G.Bits w a b h = none_from w h
 
 first_class_nth : (ts : List TypeTree) (i : ℕ) → All IsFirstClass ts → IfSome (slice_get ts i) IsFirstClass
 first_class_nth [] i h = tt
@@ -100,8 +101,8 @@ module _ (types : Typing) where
     abbrev k : Gives
     k = (rule_of op).gives
 
-    written : is_written shape same_tree k w ≡ true
-    written = and_left (is_written shape same_tree k w) (takes_fit shape same_tree (rule_of op).takes (length ts) w (slice_get ts 0) (slice_get ts 1) (slice_get ts 2)) fits
+    written : is_written laned same_tree k w ≡ true
+    written = and_left (is_written laned same_tree k w) (takes_fit laned same_tree (rule_of op).takes (length ts) w (slice_get ts 0) (slice_get ts 1) (slice_get ts 2)) fits
 
     gives : typed op w ts ≡ given k w (slice_get ts 0) (slice_get ts 1)
     gives = ap (λ (t : Bool). if t then given k w (slice_get ts 0) (slice_get ts 1) else None) fits

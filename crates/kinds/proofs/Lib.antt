@@ -9,3 +9,4 @@ pub mod TableLaws
 pub mod OpLaws
 pub mod HeldLaws
 pub mod NameLaws
+pub mod LaneLaws

@@ -2,8 +2,11 @@
 use Rattle.std.proofs.Common.{◌≡◌, ◌+◌, ℕ, zero, suc, Bool, true, false, refl, ap, sym, subst, ◌∙◌, map, List, ◌∷◌, Option, Some, None, slice_get, inl, inr, if◌then◌else◌}
 use Rattle.std.specs.Option.{option_map, option_map_or}
 use Rattle.kinds.specs.declared.types.OtherType.{OtherType}
+use Rattle.kinds.specs.declared.types.Lanes.{Lanes}
+use Rattle.kinds.specs.declared.types.Lanes.TheVariants as N
 use Rattle.kinds.specs.declared.fitting.Shape.{Shape}
-use Rattle.kinds.specs.Types.{TypeTree, VoidType, IntType, PointerType, FloatingType, RefusedType, ArrayType, VectorType, StructType, NamedType, FunctionType, TypeTrees, NoTypes, ThenType, shape, types_list, parts_of, result_of, takes_of, params_of, depth, depths, count_types}
+use Rattle.kinds.specs.declared.fitting.Laned.{Laned}
+use Rattle.kinds.specs.Types.{TypeTree, VoidType, IntType, PointerType, FloatingType, RefusedType, ArrayType, VectorType, StructType, NamedType, FunctionType, TypeTrees, NoTypes, ThenType, shape, laned, many, in_lanes, bits_of, types_list, parts_of, result_of, takes_of, params_of, depth, depths, count_types}
 use Rattle.kinds.specs.Fitting.{is_first_class, is_held}
 use Rattle.kinds.specs.Held.{is_void, own_type, width_in, too_deep, throughout, each_throughout, IsShallow, IsFirstClass, IsReturned, IsHeld, IsHeldResult, refused_of, refused_in}
 use Rattle.kinds.specs.Structs.{StructBody, Struct, struct_in, each_type, each_field, nests, renamed, renamed_all, renamed_body, renamed_struct, Holds, Itself, InPart, InField}
@@ -54,6 +57,26 @@ module _ (to : List ℕ → List ℕ) where
   renamed_shape (StructType l ts) = refl
   renamed_shape (NamedType n) = refl
   renamed_shape (FunctionType r ps v) = refl
+
+  pub renamed_laned : (t : TypeTree) → laned (renamed to t) ≡ laned t
+  renamed_laned VoidType = refl
+  renamed_laned (IntType w) = refl
+  renamed_laned (PointerType s) = refl
+  renamed_laned (FloatingType a) = refl
+  renamed_laned (RefusedType a) = refl
+  renamed_laned (ArrayType n t) = refl
+  renamed_laned (VectorType k n t) = ap (λ (s : Shape). many k n s) (renamed_shape t)
+  renamed_laned (StructType l ts) = refl
+  renamed_laned (NamedType n) = refl
+  renamed_laned (FunctionType r ps v) = refl
+
+  -- bits name no structs
+  pub renamed_lanes : (l : Lanes) → renamed to (in_lanes l (IntType 1)) ≡ in_lanes l (IntType 1)
+  renamed_lanes N.One = refl
+  renamed_lanes (N.Many k n) = refl
+
+  pub renamed_bits : (t : TypeTree) → bits_of (renamed to t) ≡ renamed to (bits_of t)
+  renamed_bits t = ap (λ (l : Laned). in_lanes l.lanes (IntType 1)) (renamed_laned t) ∙ sym (renamed_lanes (laned t).lanes)
 
   mutual
     pub renamed_throughout : (p : Shape → Bool) (t : TypeTree) → throughout p (renamed to t) ≡ throughout p t

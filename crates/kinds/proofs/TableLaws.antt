@@ -30,11 +30,13 @@ takes_few T.Return false = omega arith
 abbrev pub names_earlier : (first second : Bool) → Fit → Bool
 names_earlier first second F.Any = true
 names_earlier first second F.Number = true
+names_earlier first second F.Comparable = true
 names_earlier first second F.Bit = true
+names_earlier first second F.Bits = true
+names_earlier first second F.Chosen = first
 names_earlier first second F.First = first
 names_earlier first second F.Second = second
-names_earlier first second F.Wider = true
-names_earlier first second F.Narrower = true
+names_earlier first second (F.Cast by) = true
 
 -- each word names operands before its own
 abbrev pub is_ordered : Takes → Bool

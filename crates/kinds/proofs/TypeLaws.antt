@@ -30,10 +30,10 @@ other_self a = grind arith
 other_told : (a b : OtherType) → same_other a b ≡ true → a ≡ b
 other_told a b e = grind arith
 
-kind_self : (a : VectorTypeKind) → same_kind a a ≡ true
+pub kind_self : (a : VectorTypeKind) → same_kind a a ≡ true
 kind_self a = grind arith
 
-kind_told : (a b : VectorTypeKind) → same_kind a b ≡ true → a ≡ b
+pub kind_told : (a b : VectorTypeKind) → same_kind a b ≡ true → a ≡ b
 kind_told a b e = grind arith
 
 layout_self : (a : StructLayout) → same_layout a a ≡ true

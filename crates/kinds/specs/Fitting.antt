@@ -1,7 +1,9 @@
 -- Whether operands fit a row, given how many there are and the types of the first three, whatever a type is.
-use Rattle.std.specs.Prelude.{ℕ, Bool, true, false, not, ◌&&◌, ◌^◌, nat_eq, nat_le, nat_lt, Option, Some, None}
+use Rattle.std.specs.Prelude.{ℕ, Bool, true, false, not, ◌&&◌, ◌||◌, ◌^◌, nat_eq, nat_le, nat_lt, Option, Some, None}
 use Rattle.kinds.specs.declared.rules.Fit.{Fit}
 use Rattle.kinds.specs.declared.rules.Fit.TheVariants as F
+use Rattle.kinds.specs.declared.rules.Cast.{Cast}
+use Rattle.kinds.specs.declared.rules.Cast.TheVariants as C
 use Rattle.kinds.specs.declared.rules.Takes.{Takes}
 use Rattle.kinds.specs.declared.rules.Takes.TheVariants as T
 use Rattle.kinds.specs.declared.rules.Gives.{Gives}
@@ -9,8 +11,12 @@ use Rattle.kinds.specs.declared.rules.Gives.TheVariants as G
 use Rattle.kinds.specs.declared.rules.Rule.{Rule}
 use Rattle.kinds.specs.declared.fitting.Shape.{Shape}
 use Rattle.kinds.specs.declared.fitting.Shape.TheVariants as S
+use Rattle.kinds.specs.declared.fitting.Laned.{Laned}
 use Rattle.kinds.specs.declared.fitting.TypeView.{TypeView}
+use Rattle.kinds.specs.declared.types.Lanes.{Lanes}
+use Rattle.kinds.specs.declared.types.Lanes.TheVariants as N
 use Rattle.kinds.specs.declared.types.OtherType.TheVariants as O
+use Rattle.kinds.specs.Types.{same_kind}
 
 -- ---- shapes
 
@@ -144,40 +150,83 @@ abbrev pub is_wider : Shape → Shape → Bool
 is_wider (S.Int v) (S.Int w) = nat_lt w v
 is_wider _ _ = false
 
+-- two pointers, of two address spaces
+abbrev pub is_elsewhere : Shape → Shape → Bool
+is_elsewhere (S.Pointer s) (S.Pointer t) = not (nat_eq s t)
+is_elsewhere _ _ = false
+
+-- an integer or a pointer
+abbrev pub is_comparable : Shape → Bool
+is_comparable s = is_number s || is_pointer s
+
+-- a lane may be cast so: a line for each word
+abbrev pub is_cast : Cast → (from to : Shape) → Bool
+is_cast C.ToNarrower s t = is_wider s t
+is_cast C.ToWider s t = is_wider t s
+is_cast C.ToNumber s t = is_pointer s && is_number t
+is_cast C.ToPointer s t = is_number s && is_pointer t
+is_cast C.ToSpace s t = is_elsewhere s t
+
+-- ---- lanes
+
+abbrev pub is_one : Lanes → Bool
+is_one N.One = true
+is_one (N.Many kind count) = false
+
+abbrev pub same_lanes : Lanes → Lanes → Bool
+same_lanes N.One N.One = true
+same_lanes (N.Many k n) (N.Many l m) = same_kind k l && nat_eq n m
+same_lanes _ _ = false
+
+-- cast lane by lane
+abbrev pub is_cast_laned : Cast → (from to : Laned) → Bool
+is_cast_laned by a b = same_lanes a.lanes b.lanes && is_cast by a.lane b.lane
+
+-- each lane is chosen by one of bits, or all are by one bit
+abbrev pub is_chosen_laned : (bits own : Laned) → Bool
+is_chosen_laned a b = (is_one a.lanes || same_lanes a.lanes b.lanes) && is_value b.lane
+
+-- i1, in as many lanes
+abbrev pub is_bits_laned : (own of : Laned) → Bool
+is_bits_laned a b = is_bit a.lane && same_lanes a.lanes b.lanes
+
 -- ---- types by number
 
-abbrev pub view_shape : TypeView → Shape
-view_shape t = t.shape
+abbrev pub view_laned : TypeView → Laned
+view_laned t = t.laned
 
 abbrev pub view_same : TypeView → TypeView → Bool
 view_same a b = nat_eq a.number b.number
 
 -- ---- the evaluator
 
--- a type is whatever has a shape and a test of sameness
-module _ {X : Type 0} (shape : X → Shape) (same : X → X → Bool) where
+-- a type is whatever has lanes of a shape and a test of sameness
+module _ {X : Type 0} (laned : X → Laned) (same : X → X → Bool) where
   abbrev pub is_same : Option X → X → Bool
   is_same (Some a) b = same a b
   is_same None b = false
 
-  -- wider than the type that is written, where one is
-  abbrev pub is_above : Option X → X → Bool
-  is_above (Some w) own = is_wider (shape own) (shape w)
-  is_above None own = false
+  -- chosen by the first operand
+  abbrev pub is_chosen : Option X → X → Bool
+  is_chosen (Some a) own = is_chosen_laned (laned a) (laned own)
+  is_chosen None own = false
 
-  abbrev pub is_below : Option X → X → Bool
-  is_below (Some w) own = is_wider (shape w) (shape own)
-  is_below None own = false
+  -- cast to the type that is written, where one is
+  abbrev pub is_cast_to : Cast → Option X → X → Bool
+  is_cast_to by (Some w) own = is_cast_laned by (laned own) (laned w)
+  is_cast_to by None own = false
 
   -- a line for each word: w is the type that is written, a and b are those of the first two operands
   abbrev pub fit_one : Fit → (w a b : Option X) → X → Bool
-  fit_one F.Any w a b own = is_value (shape own)
-  fit_one F.Number w a b own = is_number (shape own)
-  fit_one F.Bit w a b own = is_bit (shape own)
+  fit_one F.Any w a b own = is_value (laned own).lane
+  fit_one F.Number w a b own = is_number (laned own).lane
+  fit_one F.Comparable w a b own = is_comparable (laned own).lane
+  fit_one F.Bit w a b own = is_one (laned own).lanes && is_bit (laned own).lane
+  fit_one F.Bits w a b own = is_bit (laned own).lane
+  fit_one F.Chosen w a b own = is_chosen a own
   fit_one F.First w a b own = is_same a own
   fit_one F.Second w a b own = is_same b own
-  fit_one F.Wider w a b own = is_above w own
-  fit_one F.Narrower w a b own = is_below w own
+  fit_one (F.Cast by) w a b own = is_cast_to by w own
 
   abbrev pub fit : Fit → (w a b own : Option X) → Bool
   fit by w a b None = false
@@ -197,7 +246,7 @@ module _ {X : Type 0} (shape : X → Shape) (same : X → X → Bool) where
 
   abbrev pub is_value_type : Option X → Bool
   is_value_type None = false
-  is_value_type (Some w) = is_value (shape w)
+  is_value_type (Some w) = is_value (laned w).lane
 
   -- a type is written just where one is asked, and is then one of a value
   abbrev pub is_written : Gives → Option X → Bool
@@ -205,7 +254,7 @@ module _ {X : Type 0} (shape : X → Shape) (same : X → X → Bool) where
   is_written G.First w = is_no_type w
   is_written G.Second w = is_no_type w
   is_written G.Written w = is_value_type w
-  is_written G.Bit w = is_no_type w
+  is_written G.Bits w = is_no_type w
 
   -- so many operands fit, of which the first three have these types, beside a written type or none
   abbrev pub fits : Rule → (count : ℕ) → (w a b c : Option X) → Bool

@@ -5,6 +5,7 @@ use Rattle.kinds.specs.declared.op.Op.TheVariants as O
 use Rattle.kinds.specs.declared.op.Immediates.{Immediates}
 use Rattle.kinds.specs.declared.op.Immediates.TheVariants as M
 use Rattle.kinds.specs.declared.rules.Fit.TheVariants as F
+use Rattle.kinds.specs.declared.rules.Cast.TheVariants as C
 use Rattle.kinds.specs.declared.rules.Takes.{Takes}
 use Rattle.kinds.specs.declared.rules.Takes.TheVariants as T
 use Rattle.kinds.specs.declared.rules.Gives.{Gives}
@@ -33,11 +34,14 @@ rule_of O.AShr = rule (T.Two F.Number F.First) G.First L.On Shows
 rule_of O.And = rule (T.Two F.Number F.First) G.First L.On Shows
 rule_of O.Or = rule (T.Two F.Number F.First) G.First L.On Shows
 rule_of O.Xor = rule (T.Two F.Number F.First) G.First L.On Shows
-rule_of (O.ICmp predicate) = rule (T.Two F.Number F.First) G.Bit L.On Shows
-rule_of O.Trunc = rule (T.One F.Wider) G.Written L.On Builds
-rule_of O.SExt = rule (T.One F.Narrower) G.Written L.On Shows
-rule_of (O.ZExt nneg) = rule (T.One F.Narrower) G.Written L.On Shows
-rule_of O.Select = rule (T.Three F.Bit F.Any F.Second) G.Second L.On Shows
+rule_of (O.ICmp predicate) = rule (T.Two F.Comparable F.First) G.Bits L.On Shows
+rule_of O.Trunc = rule (T.One (F.Cast C.ToNarrower)) G.Written L.On Builds
+rule_of O.SExt = rule (T.One (F.Cast C.ToWider)) G.Written L.On Shows
+rule_of (O.ZExt nneg) = rule (T.One (F.Cast C.ToWider)) G.Written L.On Shows
+rule_of O.PtrToInt = rule (T.One (F.Cast C.ToNumber)) G.Written L.On Builds
+rule_of O.IntToPtr = rule (T.One (F.Cast C.ToPointer)) G.Written L.On Builds
+rule_of O.AddrSpaceCast = rule (T.One (F.Cast C.ToSpace)) G.Written L.On Shows
+rule_of O.Select = rule (T.Three F.Bits F.Chosen F.Second) G.Second L.On Shows
 rule_of O.Freeze = rule (T.One F.Any) G.First L.On Shows
 rule_of O.Br = rule T.Nothing G.Nothing (L.To 1) Shows
 rule_of O.CondBr = rule (T.One F.Bit) G.Nothing (L.To 2) Shows
@@ -63,6 +67,9 @@ immediates_of (O.ICmp predicate) = M.Predicate predicate
 immediates_of O.Trunc = M.Nothing
 immediates_of O.SExt = M.Nothing
 immediates_of (O.ZExt nneg) = M.NonNegative nneg
+immediates_of O.PtrToInt = M.Nothing
+immediates_of O.IntToPtr = M.Nothing
+immediates_of O.AddrSpaceCast = M.Nothing
 immediates_of O.Select = M.Nothing
 immediates_of O.Freeze = M.Nothing
 immediates_of O.Br = M.Nothing
@@ -89,6 +96,9 @@ op_word (O.ICmp predicate) = codes "llvm.icmp"
 op_word O.Trunc = codes "llvm.trunc"
 op_word O.SExt = codes "llvm.sext"
 op_word (O.ZExt nneg) = codes "llvm.zext"
+op_word O.PtrToInt = codes "llvm.ptrtoint"
+op_word O.IntToPtr = codes "llvm.inttoptr"
+op_word O.AddrSpaceCast = codes "llvm.addrspacecast"
 op_word O.Select = codes "llvm.select"
 op_word O.Freeze = codes "llvm.freeze"
 op_word O.Br = codes "llvm.br"

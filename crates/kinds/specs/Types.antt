@@ -3,6 +3,9 @@ use Rattle.std.specs.Prelude.{ℕ, ◌+◌, max, Bool, true, false, ◌&&◌, na
 use Rattle.std.specs.Str.{bytes_eq}
 use Rattle.kinds.specs.declared.fitting.Shape.{Shape}
 use Rattle.kinds.specs.declared.fitting.Shape.TheVariants as S
+use Rattle.kinds.specs.declared.fitting.Laned.{Laned}
+use Rattle.kinds.specs.declared.types.Lanes.{Lanes}
+use Rattle.kinds.specs.declared.types.Lanes.TheVariants as N
 use Rattle.kinds.specs.declared.types.Floating.{Floating}
 use Rattle.kinds.specs.declared.types.Floating.TheVariants as F
 use Rattle.kinds.specs.declared.types.OtherType.{OtherType}
@@ -45,6 +48,27 @@ shape (VectorType kind count t) = S.Made
 shape (StructType layout ts) = S.Made
 shape (NamedType name) = S.Named
 shape (FunctionType result params variadic) = S.Function
+
+-- one lane of a shape, and as many as a vector has
+abbrev pub one : Shape → Laned
+one s = record { lanes = N.One; lane = s }
+
+abbrev pub many : VectorTypeKind → ℕ → Shape → Laned
+many kind count s = record { lanes = N.Many kind count; lane = s }
+
+-- the lanes of a type: those of a vector are its elements, any other type is one
+abbrev pub laned : TypeTree → Laned
+laned (VectorType kind count t) = many kind count (shape t)
+laned t = one (shape t)
+
+-- so many lanes of a type
+abbrev pub in_lanes : Lanes → TypeTree → TypeTree
+in_lanes N.One t = t
+in_lanes (N.Many kind count) t = VectorType kind count t
+
+-- i1, in as many lanes as a type has
+abbrev pub bits_of : TypeTree → TypeTree
+bits_of t = in_lanes (laned t).lanes (IntType 1)
 
 abbrev pub same_bool : Bool → Bool → Bool
 same_bool true b = b

@@ -1,10 +1,11 @@
 //! Whether operands fit a row: one evaluator of the table's words, for either side.
 
 ghost use Rattle.std.specs.Prelude.{◌≡◌};
-ghost use Rattle.kinds.specs.Fitting.{fit, is_same, is_wider, is_written, takes_fit, fits, view_same, view_shape, is_value, is_number, is_pointer, is_bit, is_nothing, is_function, is_first_class, is_held, is_token, is_amx, is_made, is_field, is_array_of, is_vector_of};
+ghost use Rattle.kinds.specs.Types.{same_kind};
+ghost use Rattle.kinds.specs.Fitting.{fit, is_same, is_written, takes_fit, fits, view_same, view_laned, is_cast, is_bits_laned, is_cast_laned, is_chosen_laned, is_comparable, is_elsewhere, is_one, same_lanes, is_wider, is_value, is_number, is_pointer, is_bit, is_nothing, is_function, is_first_class, is_held, is_token, is_amx, is_made, is_field, is_array_of, is_vector_of};
 
-use crate::rules::{Fit, Gives, Rule, Takes};
-use crate::types::OtherType;
+use crate::rules::{Cast, Fit, Gives, Rule, Takes};
+use crate::types::{Lanes, OtherType, VectorTypeKind};
 
 /// The greatest width of an integer type in bits, 2^23.
 const MAX_WIDTH: u32 = 8_388_608;
@@ -32,11 +33,18 @@ pub enum Shape {
     Function,
 }
 
-/// A type by its number, with its shape.
+/// What rows look at in a type: its lanes, and the shape of one. What is no vector is one lane.
+#[derive(Clone, Copy, PartialEq, Eq, Debug, Drop)]
+pub struct Laned {
+    pub lanes: Lanes,
+    pub lane: Shape,
+}
+
+/// A type by its number, with its lanes.
 #[derive(Clone, Copy, PartialEq, Eq, Debug, Drop)]
 pub struct TypeView {
     pub number: u32,
-    pub shape: Shape,
+    pub laned: Laned,
 }
 
 /// Whether it is that of a type of a value.
@@ -217,8 +225,87 @@ fn is_wider(a: Shape, b: Shape) -> bool
     }
 }
 
+/// Whether both are pointers, of two address spaces.
+fn is_elsewhere(a: Shape, b: Shape) -> bool
+    ensures { result ≡ is_elsewhere a b }
+{
+    match (a, b) {
+        (Shape::Pointer(s), Shape::Pointer(t)) => s != t,
+        _ => false,
+    }
+}
+
+fn is_comparable(shape: Shape) -> bool
+    ensures { result ≡ is_comparable shape }
+{
+    is_number(shape) || is_pointer(shape)
+}
+
+/// Whether a lane may be cast so: a line for each word.
+fn is_cast(by: Cast, from: Shape, to: Shape) -> bool
+    ensures { result ≡ is_cast by from to }
+{
+    match by {
+        Cast::ToNarrower => is_wider(from, to),
+        Cast::ToWider => is_wider(to, from),
+        Cast::ToNumber => is_pointer(from) && is_number(to),
+        Cast::ToPointer => is_number(from) && is_pointer(to),
+        Cast::ToSpace => is_elsewhere(from, to),
+    }
+}
+
+fn is_one(lanes: Lanes) -> bool
+    ensures { result ≡ is_one lanes }
+{
+    match lanes {
+        Lanes::One => true,
+        Lanes::Many(..) => false,
+    }
+}
+
+fn same_kind(a: VectorTypeKind, b: VectorTypeKind) -> bool
+    ensures { result ≡ same_kind a b }
+{
+    match (a, b) {
+        (VectorTypeKind::Fixed, VectorTypeKind::Fixed) => true,
+        (VectorTypeKind::Scalable, VectorTypeKind::Scalable) => true,
+        _ => false,
+    }
+}
+
+fn same_lanes(a: Lanes, b: Lanes) -> bool
+    ensures { result ≡ same_lanes a b }
+{
+    match (a, b) {
+        (Lanes::One, Lanes::One) => true,
+        (Lanes::Many(k, n), Lanes::Many(l, m)) => same_kind(k, l) && n == m,
+        _ => false,
+    }
+}
+
+/// Whether a value is cast so, lane by lane.
+fn is_cast_laned(by: Cast, from: Laned, to: Laned) -> bool
+    ensures { result ≡ is_cast_laned by from to }
+{
+    same_lanes(from.lanes, to.lanes) && is_cast(by, from.lane, to.lane)
+}
+
+/// Whether each lane of a value is chosen by one of bits, or all are by one bit.
+fn is_chosen_laned(bits: Laned, own: Laned) -> bool
+    ensures { result ≡ is_chosen_laned bits own }
+{
+    (is_one(bits.lanes) || same_lanes(bits.lanes, own.lanes)) && is_value(own.lane)
+}
+
+/// Whether it is that of bits, in as many lanes as another type has.
+pub fn is_bits_laned(own: Laned, of: Laned) -> bool
+    ensures { result ≡ is_bits_laned own of }
+{
+    is_bit(own.lane) && same_lanes(own.lanes, of.lanes)
+}
+
 fn is_same(a: Option<TypeView>, b: TypeView) -> bool
-    ensures { result ≡ is_same view_shape view_same a b }
+    ensures { result ≡ is_same view_laned view_same a b }
 {
     match a {
         Some(a) => a.number == b.number,
@@ -227,6 +314,7 @@ fn is_same(a: Option<TypeView>, b: TypeView) -> bool
 }
 
 /// Whether an operand fits, beside the type that is written and the first two operands' types.
+#[inline(always)]
 fn fit(
     by: Fit,
     written: Option<TypeView>,
@@ -234,23 +322,25 @@ fn fit(
     b: Option<TypeView>,
     own: Option<TypeView>,
 ) -> bool
-    ensures { result ≡ fit view_shape view_same by written a b own }
+    ensures { result ≡ fit view_laned view_same by written a b own }
 {
     let Some(own) = own else {
         return false;
     };
     match by {
-        Fit::Any => is_value(own.shape),
-        Fit::Number => is_number(own.shape),
-        Fit::Bit => is_bit(own.shape),
-        Fit::First => is_same(a, own),
-        Fit::Second => is_same(b, own),
-        Fit::Wider => match written {
-            Some(written) => is_wider(own.shape, written.shape),
+        Fit::Any => is_value(own.laned.lane),
+        Fit::Number => is_number(own.laned.lane),
+        Fit::Comparable => is_comparable(own.laned.lane),
+        Fit::Bit => is_one(own.laned.lanes) && is_bit(own.laned.lane),
+        Fit::Bits => is_bit(own.laned.lane),
+        Fit::Chosen => match a {
+            Some(a) => is_chosen_laned(a.laned, own.laned),
             None => false,
         },
-        Fit::Narrower => match written {
-            Some(written) => is_wider(written.shape, own.shape),
+        Fit::First => is_same(a, own),
+        Fit::Second => is_same(b, own),
+        Fit::Cast(by) => match written {
+            Some(written) => is_cast_laned(by, own.laned, written.laned),
             None => false,
         },
     }
@@ -267,7 +357,7 @@ fn takes_fit(
     b: Option<TypeView>,
     c: Option<TypeView>,
 ) -> bool
-    ensures { result ≡ takes_fit view_shape view_same takes count written a b c }
+    ensures { result ≡ takes_fit view_laned view_same takes count written a b c }
 {
     match takes {
         Takes::Nothing => count == 0,
@@ -285,10 +375,10 @@ fn takes_fit(
 
 /// Whether a type is written just where one is asked, and is then one of a value.
 fn is_written(gives: Gives, written: Option<TypeView>) -> bool
-    ensures { result ≡ is_written view_shape view_same gives written }
+    ensures { result ≡ is_written view_laned view_same gives written }
 {
     match (gives, written) {
-        (Gives::Written, Some(written)) => is_value(written.shape),
+        (Gives::Written, Some(written)) => is_value(written.laned.lane),
         (Gives::Written, None) => false,
         (_, written) => written.is_none(),
     }
@@ -305,7 +395,7 @@ pub fn fits(
     b: Option<TypeView>,
     c: Option<TypeView>,
 ) -> bool
-    ensures { result ≡ fits view_shape view_same rule count written a b c }
+    ensures { result ≡ fits view_laned view_same rule count written a b c }
 {
     is_written(rule.gives, written) && takes_fit(rule.takes, count, written, a, b, c)
 }

@@ -3,7 +3,7 @@
 ghost use Rattle.std.specs.Prelude.{◌≡◌};
 ghost use Rattle.kinds.specs.Table.{immediates_of, rule_of, op_word};
 
-use crate::rules::{Family, Fit, Gives, Leads, Rule, Takes};
+use crate::rules::{Cast, Family, Fit, Gives, Leads, Rule, Takes};
 
 /// Which overflows make the result poison (Language Reference, "add" Instruction).
 #[derive(Clone, Copy, PartialEq, Eq, Hash, Debug, Drop)]
@@ -14,7 +14,7 @@ pub struct OverflowFlags {
     pub nsw: bool,
 }
 
-/// How `icmp` compares two integers (Language Reference, "icmp" Instruction).
+/// How `icmp` compares two integers or pointers (Language Reference, "icmp" Instruction).
 #[derive(Clone, Copy, PartialEq, Eq, Hash, Debug, Drop)]
 pub enum LLVMIntPredicate {
     LLVMIntEQ,
@@ -67,6 +67,12 @@ pub enum Op {
     SExt,
     /// `zext` (Language Reference, "zext .. to" Instruction); true is the flag `nneg`.
     ZExt(bool),
+    /// `ptrtoint` (Language Reference, "ptrtoint .. to" Instruction).
+    PtrToInt,
+    /// `inttoptr` (Language Reference, "inttoptr .. to" Instruction).
+    IntToPtr,
+    /// `addrspacecast` (Language Reference, "addrspacecast .. to" Instruction).
+    AddrSpaceCast,
     /// `select` (Language Reference, "select" Instruction).
     Select,
     /// `freeze` (Language Reference, "freeze" Instruction).
@@ -123,11 +129,14 @@ impl Op {
             Op::And => rule(Takes::Two(Fit::Number, Fit::First), Gives::First, Leads::On, Family::Shows),
             Op::Or => rule(Takes::Two(Fit::Number, Fit::First), Gives::First, Leads::On, Family::Shows),
             Op::Xor => rule(Takes::Two(Fit::Number, Fit::First), Gives::First, Leads::On, Family::Shows),
-            Op::ICmp(_) => rule(Takes::Two(Fit::Number, Fit::First), Gives::Bit, Leads::On, Family::Shows),
-            Op::Trunc => rule(Takes::One(Fit::Wider), Gives::Written, Leads::On, Family::Builds),
-            Op::SExt => rule(Takes::One(Fit::Narrower), Gives::Written, Leads::On, Family::Shows),
-            Op::ZExt(_) => rule(Takes::One(Fit::Narrower), Gives::Written, Leads::On, Family::Shows),
-            Op::Select => rule(Takes::Three(Fit::Bit, Fit::Any, Fit::Second), Gives::Second, Leads::On, Family::Shows),
+            Op::ICmp(_) => rule(Takes::Two(Fit::Comparable, Fit::First), Gives::Bits, Leads::On, Family::Shows),
+            Op::Trunc => rule(Takes::One(Fit::Cast(Cast::ToNarrower)), Gives::Written, Leads::On, Family::Builds),
+            Op::SExt => rule(Takes::One(Fit::Cast(Cast::ToWider)), Gives::Written, Leads::On, Family::Shows),
+            Op::ZExt(_) => rule(Takes::One(Fit::Cast(Cast::ToWider)), Gives::Written, Leads::On, Family::Shows),
+            Op::PtrToInt => rule(Takes::One(Fit::Cast(Cast::ToNumber)), Gives::Written, Leads::On, Family::Builds),
+            Op::IntToPtr => rule(Takes::One(Fit::Cast(Cast::ToPointer)), Gives::Written, Leads::On, Family::Builds),
+            Op::AddrSpaceCast => rule(Takes::One(Fit::Cast(Cast::ToSpace)), Gives::Written, Leads::On, Family::Shows),
+            Op::Select => rule(Takes::Three(Fit::Bits, Fit::Chosen, Fit::Second), Gives::Second, Leads::On, Family::Shows),
             Op::Freeze => rule(Takes::One(Fit::Any), Gives::First, Leads::On, Family::Shows),
             Op::Br => rule(Takes::Nothing, Gives::Nothing, Leads::To(1), Family::Shows),
             Op::CondBr => rule(Takes::One(Fit::Bit), Gives::Nothing, Leads::To(2), Family::Shows),
@@ -158,6 +167,9 @@ impl Op {
             Op::Trunc => Immediates::Nothing,
             Op::SExt => Immediates::Nothing,
             Op::ZExt(nneg) => Immediates::NonNegative(nneg),
+            Op::PtrToInt => Immediates::Nothing,
+            Op::IntToPtr => Immediates::Nothing,
+            Op::AddrSpaceCast => Immediates::Nothing,
             Op::Select => Immediates::Nothing,
             Op::Freeze => Immediates::Nothing,
             Op::Br => Immediates::Nothing,
@@ -189,6 +201,9 @@ impl Op {
             Op::Trunc => b"llvm.trunc",
             Op::SExt => b"llvm.sext",
             Op::ZExt(_) => b"llvm.zext",
+            Op::PtrToInt => b"llvm.ptrtoint",
+            Op::IntToPtr => b"llvm.inttoptr",
+            Op::AddrSpaceCast => b"llvm.addrspacecast",
             Op::Select => b"llvm.select",
             Op::Freeze => b"llvm.freeze",
             Op::Br => b"llvm.br",

@@ -3,23 +3,42 @@
 ghost use Rattle.std.specs.Prelude.{◌≡◌, ◌↔◌, IsTrue};
 ghost use Rattle.kinds.specs.Rules.{ends, target_count, operand_count};
 
-/// What the type of an operand has to be.
+/// What the type of an operand has to be. A vector is that where each of its lanes is, but for `Bit`.
 #[derive(Clone, Copy, PartialEq, Eq, Debug, Drop)]
 pub enum Fit {
     /// A type of a value.
     Any,
     /// An integer.
     Number,
-    /// `i1`.
+    /// An integer or a pointer.
+    Comparable,
+    /// `i1`, and no vector.
     Bit,
+    /// `i1`.
+    Bits,
+    /// A type of a value, with as many lanes as the first operand has, or with any where that is no vector.
+    Chosen,
     /// The type of the first operand.
     First,
     /// The type of the second operand.
     Second,
-    /// An integer wider than the type that is written.
-    Wider,
-    /// An integer narrower than the type that is written.
-    Narrower,
+    /// What is cast, lane by lane, to the type that is written.
+    Cast(Cast),
+}
+
+/// What a lane is cast to.
+#[derive(Clone, Copy, PartialEq, Eq, Debug, Drop)]
+pub enum Cast {
+    /// An integer to a narrower one.
+    ToNarrower,
+    /// An integer to a wider one.
+    ToWider,
+    /// A pointer to an integer.
+    ToNumber,
+    /// An integer to a pointer.
+    ToPointer,
+    /// A pointer to one of another address space.
+    ToSpace,
 }
 
 /// The operands of a row, in order.
@@ -44,8 +63,8 @@ pub enum Gives {
     Second,
     /// The type that is written beside the operands, as that of a cast.
     Written,
-    /// `i1`.
-    Bit,
+    /// `i1`, in as many lanes as the first operand has.
+    Bits,
 }
 
 /// How many blocks a row leads to.

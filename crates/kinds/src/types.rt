@@ -41,6 +41,15 @@ pub enum VectorTypeKind {
     Scalable,
 }
 
+/// How many lanes a type has: what a row asks of a type it asks of each.
+#[derive(Clone, Copy, PartialEq, Eq, Hash, Debug, Drop)]
+pub enum Lanes {
+    /// One, the whole: the type is no vector.
+    One,
+    /// The elements of a vector, so many.
+    Many(VectorTypeKind, u32),
+}
+
 /// How the fields of a struct lie (Language Reference, Structure Type).
 #[derive(Clone, Copy, PartialEq, Eq, Hash, Debug, Drop)]
 pub enum StructLayout {

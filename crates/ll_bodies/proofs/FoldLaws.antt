@@ -1,9 +1,7 @@
 -- Functions that go behind those of a module one after another.
 use Rattle.std.proofs.Common.{◌≡◌, ◌+◌, ℕ, suc, List, [], ◌∷◌, ◌++◌, Option, Some, None, length, length-append, slice_get, map, drop, ap, sym, ◌∙◌, refl, arith}
 use Rattle.std.proofs.lemmas.List.{append-nil, append_assoc}
-use Rattle.support.proofs.ListLaws.{slice_get-kept}
 use Rattle.llvm_core.specs.declared.types.LLVMTypeKind.{LLVMTypeKind}
-use Rattle.llvm_core.specs.declared.types.LLVMTypeKind.TheVariants as kinds
 use Rattle.llvm_core.specs.declared.consts.LLVMConstKind.{LLVMConstKind}
 use Rattle.llvm_core.specs.Module.{Module}
 use Rattle.llvm_core.specs.Sound.{IsModule}
@@ -28,17 +26,6 @@ keeps_twice a b c g h = record {
   more_consts = g.more_consts ++ h.more_consts;
   consts = h.consts ∙ ap (λ (cs : List LLVMConstKind). cs ++ h.more_consts) g.consts ∙ append_assoc a.consts g.more_consts h.more_consts;
   structs = h.structs ∙ g.structs;
-}
-
--- a module has the types that every function needs
-pub record HasNeeded (m : Module) (bit void : ℕ) : Type 0 where
-  pub is_bit : slice_get m.types bit ≡ Some (kinds.Int 1)
-  pub is_void : slice_get m.types void ≡ Some kinds.Void
-
-pub needed_kept : (a b : Module) (bit void : ℕ) → Keeps a b → HasNeeded a bit void → HasNeeded b bit void
-needed_kept a b bit void g h = record {
-  is_bit = ap (λ ts. slice_get ts bit) g.types ∙ slice_get-kept a.types g.more bit (kinds.Int 1) h.is_bit;
-  is_void = ap (λ ts. slice_get ts void) g.types ∙ slice_get-kept a.types g.more void kinds.Void h.is_void;
 }
 
 whole : {B : Type 0} (r : Option (List B)) → r ≡ (r >>= λ ys. Some ([] ++ ys))

@@ -18,6 +18,8 @@ use Rattle.ll_lines.specs.Views.{text_of, IsTableIn, IsFunctionIn}
 use Rattle.ll_literals.specs.Names.{symbol_name}
 use Rattle.ll_bodies.specs.Meaning.{function_data, count_insts}
 use Rattle.ll_bodies.specs.AddingViews.{AddsTypes, GivesBody, Keeps, AddsFunction, function_with, function_over, data_over}
+use Rattle.ll_bodies.specs.Bits.{KeepsVectors}
+use Rattle.ll_bodies.proofs.BitsLaws.{vectors_same, vectors_twice}
 use Rattle.ll_bodies.proofs.AddingLaws.{function_added}
 use Rattle.ll_bodies.proofs.ViewLaws.{function_same}
 
@@ -66,16 +68,17 @@ module _ (m a : Module) (g : AddsTypes m a) where
       ∙ ap (λ (ss : List D.Struct). function_data ss (length a.functions) (length a.blocks) (length a.insts) (function_over bytes lines m x)) keeps_types.structs
       ∙ ap (λ (k : Module). function_data (structs_of m) (length k.functions) (length k.blocks) (length k.insts) (function_over bytes lines m x)) g.rest
 
-pub joined : (bytes : List ℕ) (lines : List ConstLine) (f : ℕ) (name : List ℕ) (x : Function) (m a d n : Module) → IsModule m → IsTableIn m lines → IsFunctionIn m (length lines) x → AddsTypes m a → f ≡ length a.functions → d ≡ record a { functions = d.functions }
+pub joined : (bytes : List ℕ) (lines : List ConstLine) (f : ℕ) (name : List ℕ) (x : Function) (m a d n : Module) → IsModule m → IsTableIn m lines → IsFunctionIn m (length lines) x → AddsTypes m a → KeepsVectors m a → f ≡ length a.functions → d ≡ record a { functions = d.functions }
     → symbol_name (text_of bytes x.name) ≡ Some name → data_of d ≡ D.with_function (data_of a) (function_with bytes (trees_of a) (length a.functions) name x [])
     → GivesBody bytes lines f x d n → IsModule n → AddsFunction bytes lines x m n
-joined bytes lines f name x m a d n s inside h g number rest called made b sound =
+joined bytes lines f name x m a d n s inside h g v number rest called made b sound =
     let p = function_added bytes lines f name x a d n number rest called made b in
     record {
       function = function_with bytes (trees_of a) (length a.functions) name x b.blocks;
       is = sym (data_same m a g bytes lines x s inside h) ∙ p.0;
       given = p.1 ∙ ap (λ (z : D.ModuleData). D.with_function z (function_with bytes (trees_of a) (length a.functions) name x b.blocks)) g.same;
       keeps = record { more = g.more; types = b.types ∙ ap (λ (k : Module). k.types) rest ∙ g.types; more_consts = []; consts = b.consts ∙ ap (λ (k : Module). k.consts) rest ∙ ap (λ (k : Module). k.consts) g.rest ∙ sym (append-nil m.consts); structs = ap (λ (z : D.ModuleData). z.structs) p.1 ∙ ap (λ (z : D.ModuleData). z.structs) g.same };
+      vectors = vectors_twice m a n v (vectors_same a n (b.types ∙ ap (λ (k : Module). k.types) rest));
       blocks = b.block_count ∙ ap (λ (k : Module). length k.blocks + length b.blocks) rest ∙ ap (λ (k : Module). length k.blocks + length b.blocks) g.rest;
       insts = b.inst_count ∙ ap (λ (k : Module). length k.insts + count_insts b.blocks) rest ∙ ap (λ (k : Module). length k.insts + count_insts b.blocks) g.rest;
       sound = sound;

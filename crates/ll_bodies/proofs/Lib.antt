@@ -27,3 +27,4 @@ pub mod FoldLaws
 pub mod StructLaws
 pub mod FileLaws
 pub mod SettledLaws
+pub mod BitsLaws

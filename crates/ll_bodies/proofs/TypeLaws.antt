@@ -5,28 +5,38 @@ use Rattle.std.specs.Option.{option_map, option_map_or}
 use Rattle.std.proofs.lemmas.Bool.{eqb-true}
 use Rattle.std.proofs.lemmas.List.{length-map}
 use Rattle.std.proofs.lemmas.List.Elements.{All-head, All-tail}
+use Rattle.kinds.specs.declared.types.VectorTypeKind.{VectorTypeKind}
+use Rattle.kinds.specs.declared.types.Lanes.{Lanes}
+use Rattle.kinds.specs.declared.types.Lanes.TheVariants as N
+use Rattle.kinds.specs.declared.fitting.Laned.{Laned}
 use Rattle.kinds.specs.declared.fitting.TypeView.{TypeView}
 use Rattle.kinds.specs.declared.fitting.Shape.TheVariants as S
-use Rattle.kinds.specs.Types.{TypeTree, shape, same_tree}
+use Rattle.kinds.specs.Types.{TypeTree, IntType, one, laned, in_lanes, bits_of, same_tree}
 use Rattle.kinds.specs.Table.{rule_of}
-use Rattle.kinds.specs.Fitting.{fits, view_shape, view_same}
+use Rattle.kinds.specs.Fitting.{fits, view_laned, view_same}
 use Rattle.kinds.specs.Typing.{fits_trees, given, typed}
 use Rattle.kinds.proofs.TypeLaws.{tree_self, tree_told}
 use Rattle.kinds.proofs.FittingLaws.{fits_kept}
+use Rattle.std.proofs.lemmas.Option.{slice_get_within, same_Some}
+use Rattle.support.specs.declared.number_map.NumberMap.{NumberMap}
+use Rattle.support.specs.NumberMaps.{value_at}
 use Rattle.support.proofs.ListLaws.{item_there}
 use Rattle.llvm_core.specs.declared.numbers.LLVMType.{LLVMType}
+use Rattle.llvm_core.specs.declared.types.LLVMTypeKind.{LLVMTypeKind}
+use Rattle.llvm_core.specs.declared.types.LLVMTypeKind.TheVariants as T
 use Rattle.llvm_core.specs.Module.{Module}
-use Rattle.llvm_core.specs.Sound.{IsModule}
-use Rattle.llvm_core.specs.Parts.{shape_of, view}
+use Rattle.llvm_core.specs.Sound.{IsOfBits, IsModule}
+use Rattle.llvm_core.specs.Parts.{laned_of, laned_at, view}
 use Rattle.llvm_core.specs.Data.{Trees, type_at, trees_of}
 use Rattle.llvm_core.proofs.ApartLemmas.{apart}
-use Rattle.llvm_core.proofs.DataLemmas.{type_tree_of}
-use Rattle.llvm_core.proofs.RuleLaws.{shape_kept}
+use Rattle.llvm_core.proofs.DataLemmas.{bits_tree_of}
+use Rattle.llvm_core.proofs.RuleLaws.{laned_told}
 use Rattle.ll_lines.specs.declared.lines.Typed.{Typed}
 use Rattle.ll_lines.specs.declared.lines.RowLine.{RowLine}
 use Rattle.ll_lines.specs.Lines as L
 use Rattle.ll_lines.specs.Views.{typed_view, row_view, IsTypeIn, IsTypedIn}
 use Rattle.ll_bodies.specs.Meaning.{result_type}
+use Rattle.ll_bodies.specs.Bits.{HasBits}
 use Rattle.ll_bodies.specs.SourceViews.{IsRowIn}
 
 bool_by : (a b : Bool) → (a ≡ true → b ≡ true) → (b ≡ true → a ≡ true) → a ≡ b
@@ -42,12 +52,10 @@ module _ (m : Module) (s : IsModule m) where
   named t = tree (record { 0 = t.number })
 
   abbrev IsGood : TypeView → Type 0
-  IsGood t = (t.number < length m.types) × (t.shape ≡ shape (named t))
+  IsGood t = (t.number < length m.types) × (t.laned ≡ laned (named t))
 
   good_view : (t : LLVMType) → t.0 < length m.types → IsGood (view m.types t)
-  good_view t lt =
-      let k = item_there m.types t.0 lt in
-      (lt, ap (λ o. option_map_or shape_of o S.Void) k.1 ∙ shape_kept (trees_of m).types k.0 ∙ ap shape (sym (type_tree_of m t k.0 s k.1)))
+  good_view t lt = (lt, laned_told m s t lt)
 
   -- types are one where their numbers are
   pub same_number : (a b : LLVMType) → IsTypeIn m a → IsTypeIn m b → same_tree (tree a) (tree b) ≡ nat_eq a.0 b.0
@@ -78,13 +86,13 @@ module _ (m : Module) (s : IsModule m) where
 
   -- a row fits where the trees of its types do
   pub fits_told : (made : ℕ) (r : RowLine) → IsRowIn m made r
-      → fits view_shape view_same (rule_of r.op) (length r.operands) (option_map (view m.types) r.written) (option_map (view m.types) (slice_get (map (λ (x : Typed). x.ty) r.operands) 0)) (option_map (view m.types) (slice_get (map (λ (x : Typed). x.ty) r.operands) 1)) (option_map (view m.types) (slice_get (map (λ (x : Typed). x.ty) r.operands) 2))
+      → fits view_laned view_same (rule_of r.op) (length r.operands) (option_map (view m.types) r.written) (option_map (view m.types) (slice_get (map (λ (x : Typed). x.ty) r.operands) 0)) (option_map (view m.types) (slice_get (map (λ (x : Typed). x.ty) r.operands) 1)) (option_map (view m.types) (slice_get (map (λ (x : Typed). x.ty) r.operands) 2))
       ≡ fits_trees r.op (option_map tree r.written) (map (λ (x : Typed). tree x.ty) r.operands)
   fits_told made r h =
       let xs = r.operands in
       let at = λ (i : ℕ). nth_tree xs i ∙ sym (named_view (slice_get (map (λ (x : Typed). x.ty) xs) i)) in
       let good = λ (i : ℕ). good_some (slice_get (map (λ (x : Typed). x.ty) xs) i) (nth_there made xs i h.1) in
-      let e = fits_kept view_shape view_same shape same_tree named IsGood (λ t g. sym g.1) told (rule_of r.op) (length xs) (option_map (view m.types) r.written) (option_map (view m.types) (slice_get (map (λ (x : Typed). x.ty) xs) 0)) (option_map (view m.types) (slice_get (map (λ (x : Typed). x.ty) xs) 1)) (option_map (view m.types) (slice_get (map (λ (x : Typed). x.ty) xs) 2))
+      let e = fits_kept view_laned view_same laned same_tree named IsGood (λ t g. sym g.1) told (rule_of r.op) (length xs) (option_map (view m.types) r.written) (option_map (view m.types) (slice_get (map (λ (x : Typed). x.ty) xs) 0)) (option_map (view m.types) (slice_get (map (λ (x : Typed). x.ty) xs) 1)) (option_map (view m.types) (slice_get (map (λ (x : Typed). x.ty) xs) 2))
       (good_some r.written h.0) (good 0) (good 1) (good 2) in
       let w = sym (named_view r.written) in
       let a = at 0 in
@@ -93,11 +101,41 @@ module _ (m : Module) (s : IsModule m) where
       let n = length-map xs (λ (x : Typed). tree x.ty) in
       sym (rw (n, a, b, c, w) e)
 
+  -- a type of so many lanes is a vector
+  pub vector_kind : (t : LLVMType) (kind : VectorTypeKind) (count : ℕ) → IsTypeIn m t → (laned_at m.types t).lanes ≡ N.Many kind count → (e : LLVMType) × (slice_get m.types t.0 ≡ Some (T.Vector kind count e))
+  vector_kind t kind count lt is = let k = item_there m.types t.0 lt in by k.0 k.1 (sym (ap (λ o. (option_map_or (laned_of m.types) o (one S.Void)).lanes) k.1) ∙ is)
+    where
+      by : (k : LLVMTypeKind) → slice_get m.types t.0 ≡ Some k → (laned_of m.types k).lanes ≡ N.Many kind count → (e : LLVMType) × (slice_get m.types t.0 ≡ Some (T.Vector kind count e))
+      by (T.Vector l n e) at is =
+          let a : l ≡ kind = (cc) in
+          let b : n ≡ count = (cc) in
+          (e, at ∙ ap (λ (x : VectorTypeKind). Some (T.Vector x n e)) a ∙ ap (λ (x : ℕ). Some (T.Vector kind x e)) b)
+      by k at is = absurd (cc)
+
+  -- bits, as many as a type has lanes
+  lanes_told : (t : LLVMType) (lanes : Lanes) → IsTypeIn m t → (laned_at m.types t).lanes ≡ lanes → in_lanes lanes (IntType 1) ≡ bits_of (tree t)
+  lanes_told t lanes lt is = ap (λ (l : Lanes). in_lanes l (IntType 1)) (sym is ∙ ap (λ (l : Laned). l.lanes) (laned_told m s t lt))
+
+  pub bits_told : (t b : LLVMType) (lanes : Lanes) → IsTypeIn m t → (laned_at m.types t).lanes ≡ lanes → IsOfBits m.types lanes b → tree b ≡ bits_of (tree t)
+  bits_told t b lanes lt is of = bits_tree_of m b lanes s of ∙ lanes_told t lanes lt is
+
+  pub bit_told : (t b : LLVMType) → IsTypeIn m t → (laned_at m.types t).lanes ≡ N.One → tree b ≡ IntType 1 → tree b ≡ bits_of (tree t)
+  bit_told t b lt is of = of ∙ lanes_told t N.One lt is
+
+  -- what is noted of a vector are its bits
+  pub noted_told : (bits : NumberMap LLVMType) (t b : LLVMType) (kind : VectorTypeKind) (count : ℕ) → HasBits m bits → IsTypeIn m t → (laned_at m.types t).lanes ≡ N.Many kind count → value_at bits t.0 ≡ Some b
+      → (tree b ≡ bits_of (tree t)) × IsTypeIn m b
+  noted_told bits t b kind count has lt lanes noted =
+      let v = vector_kind t kind count lt lanes in
+      let x = has t.0 kind count v.0 v.1 in
+      let of : IsOfBits m.types (N.Many kind count) b = subst (λ (u : LLVMType). IsOfBits m.types (N.Many kind count) u) (same_Some x.0 b (sym x.1 ∙ noted)) x.2 in
+      (bits_told t b (N.Many kind count) lt lanes of, slice_get_within m.types b.0 (T.Vector kind count of.0) of.1)
+
   -- the type that a row gives
-  pub typed_told : (r : RowLine) (bit : LLVMType) (result : Option LLVMType) → fits_trees r.op (option_map tree r.written) (map (λ (x : Typed). tree x.ty) r.operands) ≡ true
+  pub typed_told : (r : RowLine) (result : Option LLVMType) → fits_trees r.op (option_map tree r.written) (map (λ (x : Typed). tree x.ty) r.operands) ≡ true
       → given (rule_of r.op).gives (option_map tree r.written) (option_map tree (slice_get (map (λ (x : Typed). x.ty) r.operands) 0)) (option_map tree (slice_get (map (λ (x : Typed). x.ty) r.operands) 1)) ≡ option_map tree result
       → typed r.op (option_map tree r.written) (map (λ (x : Typed). tree x.ty) r.operands) ≡ option_map tree result
-  typed_told r bit result fit e = rw (fit, nth_tree r.operands 0, nth_tree r.operands 1) e
+  typed_told r result fit e = rw (fit, nth_tree r.operands 0, nth_tree r.operands 1) e
 
 -- the types of the operands, as they are said
 pub types_said : (bytes : List ℕ) (t : Trees) (table : List L.SaidConst) (xs : List Typed) → map (λ (x : L.Typed). x.type) (map (typed_view bytes t table) xs) ≡ map (λ (x : Typed). type_at t.types x.ty) xs

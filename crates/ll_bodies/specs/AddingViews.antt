@@ -22,6 +22,7 @@ use Rattle.ll_literals.specs.Names.{symbol_name}
 use Rattle.llvm_core.specs.Bodies.{with_blocks}
 use Rattle.llvm_core.specs.Data.{trees_of}
 use Rattle.ll_bodies.specs.declared.adding.Shared.{Shared}
+use Rattle.ll_bodies.specs.Bits.{KeepsVectors}
 use Rattle.ll_bodies.specs.TableViews.{AreMeant}
 use Rattle.ll_bodies.specs.Scopes.{local_key, written_name}
 use Rattle.std.specs.Option.{option_map}
@@ -98,6 +99,7 @@ pub record AddsFunction (bytes : List ℕ) (lines : List ConstLine) (x : code.Fu
   pub is : data_over bytes lines old (length old.functions) (length old.blocks) (length old.insts) x ≡ Some function
   pub given : data_of new ≡ with_function (data_of old) function
   pub keeps : Keeps old new
+  pub vectors : KeepsVectors old new
   pub blocks : length new.blocks ≡ length old.blocks + length function.blocks
   pub insts : length new.insts ≡ length old.insts + count_insts function.blocks
   pub sound : IsModule new

@@ -11,3 +11,4 @@ pub mod BodyViews
 pub mod TypedViews
 pub mod FunctionViews
 pub mod AddingViews
+pub mod Bits

@@ -22,6 +22,7 @@ use Rattle.ll_lines.specs.declared.lines.Typed as code_typed
 use Rattle.ll_bodies.specs.declared.scope.Scope as code_scope
 use Rattle.ll_bodies.specs.ScopeViews.{local_at}
 use Rattle.ll_bodies.specs.Constants.{const_meant}
+use Rattle.ll_bodies.specs.Bits.{HasBits}
 use Rattle.ll_bodies.specs.TableViews.{AreMeant}
 use Rattle.ll_lines.specs.Lines as Lines
 use Rattle.ll_lines.specs.declared.lines.Param as code_param
@@ -39,7 +40,7 @@ use Rattle.ll_bodies.specs.declared.results.Source.{Source}
 abbrev pub made_in : Source → ℕ
 made_in s = length s.table.now
 
--- the module is sound, the two types are what they are named for, and the numbers are those of the table's constants
+-- the module is sound, the two types and those of bits are what they are named for, and the numbers are those of the table's constants
 pub record IsSource (s : Source) : Type 0 where
   pub sound : IsModule s.module.now
   pub made : AreMeant s.bytes.now s.module.now s.table.now (made_in s) s.consts.now
@@ -47,6 +48,7 @@ pub record IsSource (s : Source) : Type 0 where
   pub bit_there : IsTypeIn s.module.now s.bit
   pub void : type_at (trees_of s.module.now).types s.void ≡ VoidType
   pub void_there : IsTypeIn s.module.now s.void
+  pub vectors : HasBits s.module.now s.bits.now
 
 -- the types and constants of a row are there
 abbrev pub IsRowIn : Module → (made : ℕ) → RowLine → Type 0

@@ -2,6 +2,7 @@
 
 ghost use Rattle.std.specs.Prelude.{◌≡◌, false, None, Some, Err, IfOk, OnOk, [], map, length, slice_get, All};
 ghost use Rattle.std.specs.Prelude.{◌≤◌};
+ghost use Rattle.support.specs.Interned.{Interned};
 ghost use Rattle.llvm_core.specs.Parts.{IsTypeOver, HasFitParts};
 ghost use Rattle.llvm_core.specs.Code.{param_names};
 ghost use Rattle.llvm_core.specs.Data.{data_of, trees_of, with_function};
@@ -10,6 +11,7 @@ ghost use Rattle.llvm_core.specs.declared.types.LLVMTypeKind.TheVariants as kind
 ghost use Rattle.ll_lines.specs.Views.{IsTypeIn, IsTableIn, IsFunctionIn, IsFileIn, file_view};
 ghost use Rattle.ll_bodies.specs.Meaning.{file_data};
 ghost use Rattle.ll_bodies.specs.AddingViews.{IsShared, AddsTypes, Renames, data_over, all_over, names_in, with_params, function_with, GivesBody, AddsFunction, AddsFunctions};
+ghost use Rattle.ll_bodies.specs.Bits.{HasBits, HasNeeded, KeepsVectors, NotesBits};
 ghost use Rattle.ll_bodies.specs.FunctionViews.{IsNext};
 
 use crate::build_err::BuildErr;
@@ -19,6 +21,7 @@ use crate::functions::body_of;
 use crate::names::{local_name, source_name};
 use crate::results::Source;
 use crate::structs::add_structs;
+use kinds::types::Lanes;
 use ll_lines::lines::{ConstLine, File, Function, Param};
 use ll_literals::symbols::symbol_name;
 use llvm_core::module::LLVMModule;
@@ -26,12 +29,15 @@ use llvm_core::numbers::{LLVMConst, LLVMFunction, LLVMType};
 use llvm_core::types::LLVMTypeKind;
 use std::alloc::{AllocError, Global};
 use support::items::Items;
+use support::number_map::NumberMap;
 
-/// The types that every function needs, whatever it says.
-#[derive(Clone, Copy, Drop)]
+/// The types that every function needs, whatever it says: `i1`, void, and for each vector type of the module
+/// the one of as many bits.
+#[derive(Drop)]
 struct Needed {
     bit: LLVMType,
     void: LLVMType,
+    bits: NumberMap<LLVMType>,
 }
 
 /// What every function of a text is said over: its bytes, and its constants that are made of others, with the number of what each
@@ -60,21 +66,63 @@ fn type_number(module: &mut LLVMModule, kind: LLVMTypeKind) -> Result<LLVMType, 
     requires fit { HasFitParts module.old.types kind }
     ensures grows { OnOk result (AddsTypes module.old module.new) }
     ensures here { IfOk result (λ t. slice_get module.new.types t.0 ≡ Some kind) }
+    ensures got { IfOk result (λ t. Interned module.old.types module.new.types kind t.0) }
     ensures sound { IsModule module.new }
 {
     module.type_get(kind)
 }
 
-/// The types that every function needs.
-fn needed_types(module: &mut LLVMModule) -> Result<Needed, AllocError>
+/// Notes the vector of as many bits as a type has lanes, where it has some.
+fn note_bits(
+    module: &mut LLVMModule,
+    bit: LLVMType,
+    ty: LLVMType,
+    bits: &mut NumberMap<LLVMType>,
+) -> Result<(), AllocError>
+    requires sound { IsModule module.old }
+    requires bit { slice_get module.old.types bit.0 ≡ Some (kinds.Int 1) }
+    requires ty { IsTypeIn module.old ty }
     ensures grows { OnOk result (AddsTypes module.old module.new) }
-    ensures bit { IfOk result (λ t. slice_get module.new.types t.bit.0 ≡ Some (kinds.Int 1)) }
-    ensures void { IfOk result (λ t. slice_get module.new.types t.void.0 ≡ Some kinds.Void) }
+    ensures noted { OnOk result (NotesBits module.old bits.old ty.0 module.new bits.new) }
+    ensures sound { OnOk result (IsModule module.new) }
+{
+    let Lanes::Many(kind, count) = module.laned(ty).lanes else {
+        return Ok(());
+    };
+    let vector = type_number(module, LLVMTypeKind::Vector(kind, count, bit))?;
+    bits.set(ty.0, vector)?;
+    // A vector of bits, which may be new, has itself.
+    bits.set(vector.0, vector)
+}
+
+/// For each vector type of the module the one of as many bits.
+fn vector_bits(
+    alloc: Global,
+    module: &mut LLVMModule,
+    bit: LLVMType,
+) -> Result<NumberMap<LLVMType>, AllocError>
+    requires bit { slice_get module.old.types bit.0 ≡ Some (kinds.Int 1) }
+    ensures grows { OnOk result (AddsTypes module.old module.new) }
+    ensures bits { IfOk result (HasBits module.new) }
+    ensures sound { OnOk result (IsModule module.new) }
+{
+    let mut bits = NumberMap::new(alloc);
+    for at in 0..module.types() {
+        note_bits(module, bit, LLVMType(at), &mut bits)?;
+    }
+    Ok(bits)
+}
+
+/// The types that every function needs.
+fn needed_types(alloc: Global, module: &mut LLVMModule) -> Result<Needed, AllocError>
+    ensures grows { OnOk result (AddsTypes module.old module.new) }
+    ensures needed { IfOk result (λ t. HasNeeded module.new t.bit.0 t.void.0 t.bits) }
     ensures sound { OnOk result (IsModule module.new) }
 {
     let bit = type_number(module, LLVMTypeKind::Int(1))?;
     let void = type_number(module, LLVMTypeKind::Void)?;
-    Ok(Needed { bit, void })
+    let bits = vector_bits(alloc, module, bit)?;
+    Ok(Needed { bit, void, bits })
 }
 
 /// The type of a function.
@@ -85,6 +133,7 @@ fn function_type(
 ) -> Result<LLVMType, AllocError>
     requires { IsTypeIn module.old said.now.result × All (λ p. IsTypeIn module.old p.ty) said.now.params.items }
     ensures grows { OnOk result (AddsTypes module.old module.new) }
+    ensures vectors { OnOk result (KeepsVectors module.old module.new) }
     ensures here { IfOk result (λ t. slice_get module.new.types t.0 ≡ Some (kinds.Function said.now.result (map (λ (p : Param). p.ty) said.now.params.items) false)) }
     ensures sound { OnOk result (IsModule module.new) }
 {
@@ -158,8 +207,7 @@ fn give_body(
     requires made { IsShared module.old shared.now }
     requires said { IsFunctionIn module.old (length shared.now.table.now) said.now }
     requires next { IsNext module.old f (length module.old.blocks) (length module.old.insts) said.now }
-    requires bit { slice_get module.old.types types.now.bit.0 ≡ Some (kinds.Int 1) }
-    requires void { slice_get module.old.types types.now.void.0 ≡ Some kinds.Void }
+    requires needed { HasNeeded module.old types.now.bit.0 types.now.void.0 types.now.bits }
     ensures ok { OnOk result (GivesBody shared.now.bytes.now shared.now.table.now f.0 said.now module.old module.new) }
     ensures not_yet { result ≡ Err BuildErr.NotYet → data_over shared.now.bytes.now shared.now.table.now module.old f.0 (length module.old.blocks) (length module.old.insts) said.now ≡ None }
     ensures sound { OnOk result (IsModule module.new) }
@@ -171,6 +219,7 @@ fn give_body(
         module: &*module,
         bit: types.bit,
         void: types.void,
+        bits: &types.bits,
         table: shared.table,
         consts: shared.consts,
     };
@@ -191,8 +240,7 @@ fn add_function(
     requires table { IsTableIn module.old shared.now.table.now }
     requires made { IsShared module.old shared.now }
     requires said { IsFunctionIn module.old (length shared.now.table.now) said.now }
-    requires bit { slice_get module.old.types types.now.bit.0 ≡ Some (kinds.Int 1) }
-    requires void { slice_get module.old.types types.now.void.0 ≡ Some kinds.Void }
+    requires needed { HasNeeded module.old types.now.bit.0 types.now.void.0 types.now.bits }
     ensures ok { OnOk result (AddsFunction shared.now.bytes.now shared.now.table.now said.now module.old module.new) }
     ensures not_yet { result ≡ Err BuildErr.NotYet → data_over shared.now.bytes.now shared.now.table.now module.old (length module.old.functions) (length module.old.blocks) (length module.old.insts) said.now ≡ None }
 {
@@ -219,7 +267,7 @@ fn add_functions(
     ensures ok { OnOk result (AddsFunctions shared.now.bytes.now shared.now.table.now functions.now module.old module.new) }
     ensures not_yet { result ≡ Err BuildErr.NotYet → all_over shared.now.bytes.now shared.now.table.now module.old functions.now ≡ None }
 {
-    let types = needed_types(module)?;
+    let types = needed_types(alloc, module)?;
     for function in functions {
         add_function(alloc, module, shared, &types, function)?;
     }

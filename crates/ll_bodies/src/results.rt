@@ -1,8 +1,8 @@
 //! The types of the results of lines.
 
-ghost use Rattle.std.specs.Prelude.{◌≡◌, ◌<◌, ℕ, List, Some, None, map, length, slice_get, IfSome};
+ghost use Rattle.std.specs.Prelude.{◌≡◌, ◌<◌, Some, None, map, length, slice_get, IfSome};
 ghost use Rattle.std.specs.Option.{option_map};
-ghost use Rattle.kinds.specs.Types.{TypeTree, IntType};
+ghost use Rattle.kinds.specs.Types.{bits_of};
 ghost use Rattle.kinds.specs.Typing.{fits_trees};
 ghost use Rattle.kinds.specs.Typing as typing;
 ghost use Rattle.llvm_core.specs.Data.{type_at, trees_of};
@@ -13,18 +13,22 @@ ghost use Rattle.ll_bodies.specs.SourceViews.{IsSource, made_in, IsRowIn, IsFitt
 
 use kinds::fitting::{TypeView, fits};
 use kinds::rules::Gives;
+use kinds::types::Lanes;
 use ll_lines::lines::{ConstLine, Inst, RowLine, Typed};
-use llvm_core::module::{LLVMModule, shape_of};
+use llvm_core::module::LLVMModule;
 use llvm_core::numbers::{LLVMConst, LLVMType};
+use support::number_map::NumberMap;
 
-/// What the passes over the lines of a function read: the text, the module, the numbers of `i1` and of void in it, and the constants
-/// that are made of others, with the number of what each means in the module.
+/// What the passes over the lines of a function read: the text, the module, the numbers of `i1`, of void and of vectors of bits in
+/// it, and the constants that are made of others, with the number of what each means in the module.
 #[derive(Drop)]
 pub struct Source<'a> {
     pub bytes: &'a [u8],
     pub module: &'a LLVMModule,
     pub bit: LLVMType,
     pub void: LLVMType,
+    /// For each vector type of the module the one of as many bits.
+    pub bits: &'a NumberMap<LLVMType>,
     /// The constants of the file that are made of others, each behind those that it is made of.
     pub table: &'a [ConstLine],
     /// What each of them is in the module; none where it means no constant.
@@ -39,7 +43,7 @@ fn view(module: &LLVMModule, ty: Option<LLVMType>) -> Option<TypeView>
     match ty {
         Some(ty) => Some(TypeView {
             number: ty.0,
-            shape: shape_of(module.type_kind(ty)),
+            laned: module.laned(ty),
         }),
         None => None,
     }
@@ -74,23 +78,56 @@ pub fn row_fits(source: &Source<'_>, row: &RowLine) -> bool
     )
 }
 
+/// Bits, as many as a type has lanes.
+fn bits_of(source: &Source<'_>, ty: LLVMType) -> LLVMType
+    requires source { IsSource source.now }
+    requires ty { IsTypeIn source.now.module.now ty }
+    ensures ty { type_at (trees_of source.now.module.now).types result ≡ bits_of (type_at (trees_of source.now.module.now).types ty) }
+    ensures within { IsTypeIn source.now.module.now result }
+{
+    match source.module.laned(ty).lanes {
+        Lanes::One => source.bit,
+        Lanes::Many(..) => match source.bits.get(ty.0) {
+            Some(bits) => bits,
+            None => unreachable!(),
+        },
+    }
+}
+
+/// The same of a type, where there is one.
+fn bits_some(source: &Source<'_>, ty: Option<LLVMType>) -> Option<LLVMType>
+    requires source { IsSource source.now }
+    requires ty { IfSome ty (IsTypeIn source.now.module.now) }
+    ensures ty { option_map (type_at (trees_of source.now.module.now).types) result ≡ option_map bits_of (option_map (type_at (trees_of source.now.module.now).types) ty) }
+    ensures within { IfSome result (IsTypeIn source.now.module.now) }
+{
+    match ty {
+        Some(ty) => Some(bits_of(source, ty)),
+        None => None,
+    }
+}
+
 /// The type that a rule gives: a line for each word.
 fn given(
+    source: &Source<'_>,
     gives: Gives,
     written: Option<LLVMType>,
     first: Option<LLVMType>,
     second: Option<LLVMType>,
-    bit: LLVMType,
 ) -> Option<LLVMType>
-    ensures ty { (types : List TypeTree) → type_at types bit ≡ IntType 1 → typing.given gives (option_map (type_at types) written) (option_map (type_at types) first) (option_map (type_at types) second) ≡ option_map (type_at types) result }
-    ensures within { (n : ℕ) → bit.0 < n → IfSome written (λ t. t.0 < n) → IfSome first (λ t. t.0 < n) → IfSome second (λ t. t.0 < n) → IfSome result (λ t. t.0 < n) }
+    requires source { IsSource source.now }
+    requires written { IfSome written (IsTypeIn source.now.module.now) }
+    requires first { IfSome first (IsTypeIn source.now.module.now) }
+    requires second { IfSome second (IsTypeIn source.now.module.now) }
+    ensures ty { typing.given gives (option_map (type_at (trees_of source.now.module.now).types) written) (option_map (type_at (trees_of source.now.module.now).types) first) (option_map (type_at (trees_of source.now.module.now).types) second) ≡ option_map (type_at (trees_of source.now.module.now).types) result }
+    ensures within { IfSome result (IsTypeIn source.now.module.now) }
 {
     match gives {
         Gives::Nothing => None,
         Gives::First => first,
         Gives::Second => second,
         Gives::Written => written,
-        Gives::Bit => Some(bit),
+        Gives::Bits => bits_some(source, first),
     }
 }
 
@@ -104,7 +141,7 @@ fn row_gives(source: &Source<'_>, row: &RowLine) -> Option<LLVMType>
     let operands = row.operands.as_slice();
     let first = type_nth(operands, 0);
     let second = type_nth(operands, 1);
-    given(row.op.rule().gives, row.written, first, second, source.bit)
+    given(source, row.op.rule().gives, row.written, first, second)
 }
 
 /// The type of a row's result, none where it has none or its operands do not fit.

@@ -32,7 +32,7 @@ binary_op word flags = option_map (λ (of : OverflowFlags → Op). of flags) (lo
 
 -- of one operand and the type that it is taken to
 abbrev pub cast_rows : List (Text × Op)
-cast_rows = (codes "sext", O.SExt) ∷ []
+cast_rows = (codes "sext", O.SExt) ∷ (codes "ptrtoint", O.PtrToInt) ∷ (codes "inttoptr", O.IntToPtr) ∷ (codes "addrspacecast", O.AddrSpaceCast) ∷ []
 
 abbrev pub cast_op : Text → Option Op
 cast_op word = lookup (bytes_eq word) cast_rows

@@ -678,7 +678,8 @@ pub static KINDS: [Kind; 541] = [
     Kind::Row(RowKind::Or),
     // 352: simple = 'icmp' lost_samesign PREDICATE pair
     Kind::Row(RowKind::ICmp),
-    Kind::Outside,
+    // 353: simple = CAST_CONST_CAST typed 'to' type
+    Kind::Row(RowKind::Cast),
     // 354: simple = CAST typed 'to' type
     Kind::Row(RowKind::Cast),
     // 355: simple = 'trunc' lost_wraps typed 'to' type

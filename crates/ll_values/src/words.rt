@@ -37,10 +37,19 @@ pub fn binary_op(word: &[u8], flags: OverflowFlags) -> Option<Op>
 pub fn cast_op(word: &[u8]) -> Option<Op>
     ensures { result ≡ cast_op word.now }
 {
-    match word {
-        b"sext" => Some(Op::SExt),
-        _ => None,
+    if word == b"sext".as_slice() {
+        return Some(Op::SExt);
     }
+    if word == b"ptrtoint".as_slice() {
+        return Some(Op::PtrToInt);
+    }
+    if word == b"inttoptr".as_slice() {
+        return Some(Op::IntToPtr);
+    }
+    if word == b"addrspacecast".as_slice() {
+        return Some(Op::AddrSpaceCast);
+    }
+    None
 }
 
 /// The row of a word of an operation on three values.

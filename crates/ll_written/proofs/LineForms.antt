@@ -9,10 +9,10 @@ use Rattle.kinds.specs.declared.rules.Gives.{Gives}
 use Rattle.kinds.specs.declared.rules.Gives.TheVariants as G
 use Rattle.kinds.specs.Fitting.{is_written, takes_fit}
 use Rattle.kinds.specs.Table.{rule_of}
-use Rattle.kinds.specs.Types.{TypeTree, VoidType, shape, same_tree}
+use Rattle.kinds.specs.Types.{TypeTree, VoidType, laned, same_tree}
 use Rattle.kinds.specs.Held.{is_void, IsFirstClass}
 use Rattle.kinds.specs.Typing.{fits_trees, given, typed}
-use Rattle.kinds.proofs.HeldLaws.{value_own}
+use Rattle.kinds.proofs.HeldLaws.{lane_own}
 use Rattle.llvm_core.specs.Data.{Operand, Constant, Parameter, Result, RowData, Instruction, Phi, Applied, Placed, Function, operand_type}
 use Rattle.llvm_core.specs.Form.{constant_type, IsMadeOperand, operands_of, IsOperandOf, IsOperand, IsFormRow, IsFormInstruction, IsFormPlaced, types_of, returns_void}
 use Rattle.kinds.specs.Names.{IsGoodOrNone}
@@ -76,20 +76,20 @@ module _ (structs : List Struct) (all : AllByRecursion IsFormStruct structs) (f 
 -- ---- rows
 
 -- a type that is written beside operands is that of the result
-written_form : (g : Gives) (w : Option TypeTree) (a b : Option TypeTree) → is_written shape same_tree g w ≡ true → IsSayableResult (unwrap_or (given g w a b) VoidType) → IfSome w IsSayableType
+written_form : (g : Gives) (w : Option TypeTree) (a b : Option TypeTree) → is_written laned same_tree g w ≡ true → IsSayableResult (unwrap_or (given g w a b) VoidType) → IfSome w IsSayableType
 written_form g None a b is returned = tt
-written_form G.Written (Some τ) a b is returned = own_sayable τ returned (value_own τ is)
+written_form G.Written (Some τ) a b is returned = own_sayable τ returned (lane_own τ is)
 written_form G.Nothing (Some τ) a b is returned = absurd cc
 written_form G.First (Some τ) a b is returned = absurd cc
 written_form G.Second (Some τ) a b is returned = absurd cc
-written_form G.Bit (Some τ) a b is returned = absurd cc
+written_form G.Bits (Some τ) a b is returned = absurd cc
 
 module _ (structs : List Struct) (all : AllByRecursion IsFormStruct structs) (f : Function) (sayable : IsSayable f) (good : AreGoodIn structs f) where
   row_form : (type : TypeTree) (r : RowData) → IsFormRow f type r → IsSayableResult type → AllByRecursion (IsNested structs) (flat_map constant_type r.operands) → AllByRecursion (IsMadeOperand structs) r.operands → IsRow (row_of structs f r)
   row_form type r h returned nested made =
       let ts = types_of f r.operands in
       let rule = rule_of r.op in
-      let is = (and_parts (is_written shape same_tree rule.gives r.written) (takes_fit shape same_tree rule.takes (length ts) r.written (slice_get ts 0) (slice_get ts 1) (slice_get ts 2)) h.fits).0 in
+      let is = (and_parts (is_written laned same_tree rule.gives r.written) (takes_fit laned same_tree rule.takes (length ts) r.written (slice_get ts 0) (slice_get ts 1) (slice_get ts 2)) h.fits).0 in
       let plain : typed r.op r.written ts ≡ given rule.gives r.written (slice_get ts 0) (slice_get ts 1) = ap (λ (b : Bool). cond b (given rule.gives r.written (slice_get ts 0) (slice_get ts 1)) None) h.fits in
       let result : IsSayableResult (unwrap_or (given rule.gives r.written (slice_get ts 0) (slice_get ts 1)) VoidType) = subst IsSayableResult (h.result ∙ ap (λ (o : Option TypeTree). unwrap_or o VoidType) plain) returned in
       record {

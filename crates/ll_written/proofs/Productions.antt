@@ -601,6 +601,21 @@ pub simple_icmp_ult : {v v1 v3 : Value} {x1 x3 : List Spaced} (b0 b2 : Text) →
 simple_icmp_ult {v1} {v3} b0 b2 h1 h3 made_by =
     made llvm KINDS 83 352 (K.Row R.ICmp) {cs = v1 ∷ TextV (codes "ult") ∷ v3 ∷ []} refl refl refl made_by (word llvm KINDS (token b0 Word (codes "icmp")) C.word_icmp (rule llvm KINDS h1 (leaf llvm KINDS (token b2 Word (codes "ult")) C.word_ult (last llvm KINDS h3))))
 
+-- simple = CAST_CONST_CAST typed 'to' type
+pub simple_cast_bitcast : {v v1 v3 : Value} {x1 x3 : List Spaced} (b0 b2 : Text) → Reads N.typed v1 x1 → Reads N.type v3 x3 → value_by (K.Row R.Cast) (TextV (codes "bitcast") ∷ v1 ∷ v3 ∷ []) ≡ Some v → Reads N.simple v (token b0 Word (codes "bitcast") ∷ (x1 ++ (token b2 Word (codes "to") ∷ x3)))
+simple_cast_bitcast {v1} {v3} b0 b2 h1 h3 made_by =
+    made llvm KINDS 83 353 (K.Row R.Cast) {cs = TextV (codes "bitcast") ∷ v1 ∷ v3 ∷ []} refl refl refl made_by (leaf llvm KINDS (token b0 Word (codes "bitcast")) C.word_bitcast (rule llvm KINDS h1 (word llvm KINDS (token b2 Word (codes "to")) C.word_to (last llvm KINDS h3))))
+
+-- simple = CAST_CONST_CAST typed 'to' type
+pub simple_cast_inttoptr : {v v1 v3 : Value} {x1 x3 : List Spaced} (b0 b2 : Text) → Reads N.typed v1 x1 → Reads N.type v3 x3 → value_by (K.Row R.Cast) (TextV (codes "inttoptr") ∷ v1 ∷ v3 ∷ []) ≡ Some v → Reads N.simple v (token b0 Word (codes "inttoptr") ∷ (x1 ++ (token b2 Word (codes "to") ∷ x3)))
+simple_cast_inttoptr {v1} {v3} b0 b2 h1 h3 made_by =
+    made llvm KINDS 83 353 (K.Row R.Cast) {cs = TextV (codes "inttoptr") ∷ v1 ∷ v3 ∷ []} refl refl refl made_by (leaf llvm KINDS (token b0 Word (codes "inttoptr")) C.word_inttoptr (rule llvm KINDS h1 (word llvm KINDS (token b2 Word (codes "to")) C.word_to (last llvm KINDS h3))))
+
+-- simple = CAST_CONST_CAST typed 'to' type
+pub simple_cast_ptrtoint : {v v1 v3 : Value} {x1 x3 : List Spaced} (b0 b2 : Text) → Reads N.typed v1 x1 → Reads N.type v3 x3 → value_by (K.Row R.Cast) (TextV (codes "ptrtoint") ∷ v1 ∷ v3 ∷ []) ≡ Some v → Reads N.simple v (token b0 Word (codes "ptrtoint") ∷ (x1 ++ (token b2 Word (codes "to") ∷ x3)))
+simple_cast_ptrtoint {v1} {v3} b0 b2 h1 h3 made_by =
+    made llvm KINDS 83 353 (K.Row R.Cast) {cs = TextV (codes "ptrtoint") ∷ v1 ∷ v3 ∷ []} refl refl refl made_by (leaf llvm KINDS (token b0 Word (codes "ptrtoint")) C.word_ptrtoint (rule llvm KINDS h1 (word llvm KINDS (token b2 Word (codes "to")) C.word_to (last llvm KINDS h3))))
+
 -- simple = CAST typed 'to' type
 pub simple_cast_addrspacecast : {v v1 v3 : Value} {x1 x3 : List Spaced} (b0 b2 : Text) → Reads N.typed v1 x1 → Reads N.type v3 x3 → value_by (K.Row R.Cast) (TextV (codes "addrspacecast") ∷ v1 ∷ v3 ∷ []) ≡ Some v → Reads N.simple v (token b0 Word (codes "addrspacecast") ∷ (x1 ++ (token b2 Word (codes "to") ∷ x3)))
 simple_cast_addrspacecast {v1} {v3} b0 b2 h1 h3 made_by =

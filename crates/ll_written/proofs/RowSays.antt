@@ -6,6 +6,7 @@ use Rattle.kinds.specs.declared.op.OverflowFlags.{OverflowFlags}
 use Rattle.kinds.specs.declared.op.Op.{Op}
 use Rattle.kinds.specs.declared.op.Op.TheVariants as O
 use Rattle.kinds.specs.declared.rules.Fit.TheVariants as F
+use Rattle.kinds.specs.declared.rules.Cast.TheVariants as Cs
 use Rattle.kinds.specs.Types.{TypeTree}
 use Rattle.ll_lines.specs.Lines as L
 use Rattle.ll_lines.specs.Lines.{Text, Typed, RowLine}
@@ -14,8 +15,8 @@ use Rattle.ll_literals.specs.Chain.{◌>>=◌}
 use Rattle.ll_spacing.specs.Spacing.{Spaced}
 use Rattle.ll_values.specs.declared.form.Kind.TheVariants as K
 use Rattle.ll_values.specs.declared.form.RowKind.TheVariants as R
-use Rattle.ll_values.specs.Values.{Value, NoneV, TextV, FlagV, WrapsV, InstV, row, value_by}
-use Rattle.ll_values.specs.Words.{binary_op, predicate_of, no_wraps}
+use Rattle.ll_values.specs.Values.{Value, NoneV, TextV, FlagV, WrapsV, InstV, row, cast as cast_of, value_by}
+use Rattle.ll_values.specs.Words.{binary_op, cast_op, predicate_of, no_wraps}
 use Rattle.ll_written.specs.Printing.{predicate_text}
 use Rattle.ll_written.specs.Rules as N
 use Rattle.ll_written.specs.Written.{token, word, written_operands, written_values, written_returned, written_targets, written_to, written_flag, written_wraps, written_row, comma}
@@ -102,8 +103,10 @@ icmp_row : (b : Text) (p : LLVMIntPredicate) (wr : Option TypeTree) (os : List T
     → Reads N.simple (says (O.ICmp p) wr os ts) (token b T.Word (codes "icmp") ∷ word (predicate_text p) ∷ (written_operands os ++ written_to wr))
 icmp_row b p _ _ _ (pair x y h k same) = icmp_by b p _ _ _ (pair_says x y h k same) (ap (λ (o : Option LLVMIntPredicate). o >>= λ q. Some (InstV (row (O.ICmp q) (x ∷ y ∷ []) []))) (predicate_again p))
 
-sext_row : (b : Text) (wr : Option TypeTree) (os : List Typed) (ts : List Text) → IsCast wr os ts → Reads N.simple (says O.SExt wr os ts) (token b T.Word (codes "sext") ∷ (written_operands os ++ written_to wr))
-sext_row b _ _ _ (cast x τ h type) = P.simple_cast_sext b (codes " ") (operand_says x h) (type_says (codes " ") τ type) refl
+cast_row : (b t : Text) (op : Op) (wr : Option TypeTree) (os : List Typed) (ts : List Text)
+    → ((v v1 v3 : Value) (x1 x3 : List Spaced) (b2 : Text) → Reads N.typed v1 x1 → Reads N.type v3 x3 → value_by (K.Row R.Cast) (TextV t ∷ v1 ∷ v3 ∷ []) ≡ Some v → Reads N.simple v (token b T.Word t ∷ (x1 ++ (token b2 T.Word (codes "to") ∷ x3))))
+    → cast_op t ≡ Some op → IsCast wr os ts → Reads N.simple (says op wr os ts) (token b T.Word t ∷ (written_operands os ++ written_to wr))
+cast_row b t op _ _ _ law made (cast x τ h type) = law _ _ _ _ _ (codes " ") (operand_says x h) (type_says (codes " ") τ type) (ap (λ (o : Option Op). o >>= λ op. Some (InstV (cast_of op x τ))) made)
 
 trunc_row : (b : Text) (wr : Option TypeTree) (os : List Typed) (ts : List Text) → IsCast wr os ts → Reads N.simple (says O.Trunc wr os ts) (token b T.Word (codes "trunc") ∷ (written_operands os ++ written_to wr))
 trunc_row b _ _ _ (cast x τ h type) = P.simple_trunc b (codes " ") (P.lost_wraps_none) (operand_says x h) (type_says (codes " ") τ type) refl
@@ -134,23 +137,26 @@ bare_row b _ _ _ bare = P.simple_unreachable b refl
 -- ---- a line for each row of the table
 
 row_by : (b : Text) (op : Op) (wr : Option TypeTree) (os : List Typed) (ts : List Text) → IsRow (row_line op wr os ts) → Reads N.simple (says op wr os ts) (written_row b (row_line op wr os ts))
-row_by b (O.Add flags) wr os ts h = sum_row b (codes "add") (O.Add flags) flags wr os ts (λ v w xs. P.simple_sum_add b) refl (pair_form wr os ts h.fits h.count h.leads h.operands)
-row_by b (O.Sub flags) wr os ts h = sum_row b (codes "sub") (O.Sub flags) flags wr os ts (λ v w xs. P.simple_sum_sub b) refl (pair_form wr os ts h.fits h.count h.leads h.operands)
-row_by b (O.Mul flags) wr os ts h = sum_row b (codes "mul") (O.Mul flags) flags wr os ts (λ v w xs. P.simple_sum_mul b) refl (pair_form wr os ts h.fits h.count h.leads h.operands)
-row_by b (O.Shl flags) wr os ts h = sum_row b (codes "shl") (O.Shl flags) flags wr os ts (λ v w xs. P.simple_sum_shl b) refl (pair_form wr os ts h.fits h.count h.leads h.operands)
-row_by b O.UDiv wr os ts h = quotient_row b (codes "udiv") O.UDiv wr os ts (λ v w xs. P.simple_quotient_udiv b) refl (pair_form wr os ts h.fits h.count h.leads h.operands)
-row_by b O.SDiv wr os ts h = quotient_row b (codes "sdiv") O.SDiv wr os ts (λ v w xs. P.simple_quotient_sdiv b) refl (pair_form wr os ts h.fits h.count h.leads h.operands)
-row_by b O.URem wr os ts h = bits_row b (codes "urem") O.URem wr os ts (λ v w xs. P.simple_bits_urem b) refl (pair_form wr os ts h.fits h.count h.leads h.operands)
-row_by b O.SRem wr os ts h = bits_row b (codes "srem") O.SRem wr os ts (λ v w xs. P.simple_bits_srem b) refl (pair_form wr os ts h.fits h.count h.leads h.operands)
-row_by b O.LShr wr os ts h = quotient_row b (codes "lshr") O.LShr wr os ts (λ v w xs. P.simple_quotient_lshr b) refl (pair_form wr os ts h.fits h.count h.leads h.operands)
-row_by b O.AShr wr os ts h = quotient_row b (codes "ashr") O.AShr wr os ts (λ v w xs. P.simple_quotient_ashr b) refl (pair_form wr os ts h.fits h.count h.leads h.operands)
-row_by b O.And wr os ts h = bits_row b (codes "and") O.And wr os ts (λ v w xs. P.simple_bits_and b) refl (pair_form wr os ts h.fits h.count h.leads h.operands)
-row_by b O.Or wr os ts h = or_row b wr os ts (pair_form wr os ts h.fits h.count h.leads h.operands)
-row_by b O.Xor wr os ts h = bits_row b (codes "xor") O.Xor wr os ts (λ v w xs. P.simple_bits_xor b) refl (pair_form wr os ts h.fits h.count h.leads h.operands)
-row_by b (O.ICmp p) wr os ts h = icmp_row b p wr os ts (pair_form wr os ts h.fits h.count h.leads h.operands)
-row_by b O.Trunc wr os ts h = trunc_row b wr os ts (cast_form F.Wider wr os ts h.fits h.count h.leads h.written h.operands)
-row_by b O.SExt wr os ts h = sext_row b wr os ts (cast_form F.Narrower wr os ts h.fits h.count h.leads h.written h.operands)
-row_by b (O.ZExt nneg) wr os ts h = zext_row b nneg wr os ts (cast_form F.Narrower wr os ts h.fits h.count h.leads h.written h.operands)
+row_by b (O.Add flags) wr os ts h = sum_row b (codes "add") (O.Add flags) flags wr os ts (λ v w xs. P.simple_sum_add b) refl (pair_form F.Number wr os ts h.fits h.count h.leads h.operands)
+row_by b (O.Sub flags) wr os ts h = sum_row b (codes "sub") (O.Sub flags) flags wr os ts (λ v w xs. P.simple_sum_sub b) refl (pair_form F.Number wr os ts h.fits h.count h.leads h.operands)
+row_by b (O.Mul flags) wr os ts h = sum_row b (codes "mul") (O.Mul flags) flags wr os ts (λ v w xs. P.simple_sum_mul b) refl (pair_form F.Number wr os ts h.fits h.count h.leads h.operands)
+row_by b (O.Shl flags) wr os ts h = sum_row b (codes "shl") (O.Shl flags) flags wr os ts (λ v w xs. P.simple_sum_shl b) refl (pair_form F.Number wr os ts h.fits h.count h.leads h.operands)
+row_by b O.UDiv wr os ts h = quotient_row b (codes "udiv") O.UDiv wr os ts (λ v w xs. P.simple_quotient_udiv b) refl (pair_form F.Number wr os ts h.fits h.count h.leads h.operands)
+row_by b O.SDiv wr os ts h = quotient_row b (codes "sdiv") O.SDiv wr os ts (λ v w xs. P.simple_quotient_sdiv b) refl (pair_form F.Number wr os ts h.fits h.count h.leads h.operands)
+row_by b O.URem wr os ts h = bits_row b (codes "urem") O.URem wr os ts (λ v w xs. P.simple_bits_urem b) refl (pair_form F.Number wr os ts h.fits h.count h.leads h.operands)
+row_by b O.SRem wr os ts h = bits_row b (codes "srem") O.SRem wr os ts (λ v w xs. P.simple_bits_srem b) refl (pair_form F.Number wr os ts h.fits h.count h.leads h.operands)
+row_by b O.LShr wr os ts h = quotient_row b (codes "lshr") O.LShr wr os ts (λ v w xs. P.simple_quotient_lshr b) refl (pair_form F.Number wr os ts h.fits h.count h.leads h.operands)
+row_by b O.AShr wr os ts h = quotient_row b (codes "ashr") O.AShr wr os ts (λ v w xs. P.simple_quotient_ashr b) refl (pair_form F.Number wr os ts h.fits h.count h.leads h.operands)
+row_by b O.And wr os ts h = bits_row b (codes "and") O.And wr os ts (λ v w xs. P.simple_bits_and b) refl (pair_form F.Number wr os ts h.fits h.count h.leads h.operands)
+row_by b O.Or wr os ts h = or_row b wr os ts (pair_form F.Number wr os ts h.fits h.count h.leads h.operands)
+row_by b O.Xor wr os ts h = bits_row b (codes "xor") O.Xor wr os ts (λ v w xs. P.simple_bits_xor b) refl (pair_form F.Number wr os ts h.fits h.count h.leads h.operands)
+row_by b (O.ICmp p) wr os ts h = icmp_row b p wr os ts (pair_form F.Comparable wr os ts h.fits h.count h.leads h.operands)
+row_by b O.Trunc wr os ts h = trunc_row b wr os ts (cast_form (F.Cast Cs.ToNarrower) wr os ts h.fits h.count h.leads h.written h.operands)
+row_by b O.SExt wr os ts h = cast_row b (codes "sext") O.SExt wr os ts (λ v v1 v3 x1 x3 b2. P.simple_cast_sext b b2) refl (cast_form (F.Cast Cs.ToWider) wr os ts h.fits h.count h.leads h.written h.operands)
+row_by b (O.ZExt nneg) wr os ts h = zext_row b nneg wr os ts (cast_form (F.Cast Cs.ToWider) wr os ts h.fits h.count h.leads h.written h.operands)
+row_by b O.PtrToInt wr os ts h = cast_row b (codes "ptrtoint") O.PtrToInt wr os ts (λ v v1 v3 x1 x3 b2. P.simple_cast_ptrtoint b b2) refl (cast_form (F.Cast Cs.ToNumber) wr os ts h.fits h.count h.leads h.written h.operands)
+row_by b O.IntToPtr wr os ts h = cast_row b (codes "inttoptr") O.IntToPtr wr os ts (λ v v1 v3 x1 x3 b2. P.simple_cast_inttoptr b b2) refl (cast_form (F.Cast Cs.ToPointer) wr os ts h.fits h.count h.leads h.written h.operands)
+row_by b O.AddrSpaceCast wr os ts h = cast_row b (codes "addrspacecast") O.AddrSpaceCast wr os ts (λ v v1 v3 x1 x3 b2. P.simple_cast_addrspacecast b b2) refl (cast_form (F.Cast Cs.ToSpace) wr os ts h.fits h.count h.leads h.written h.operands)
 row_by b O.Select wr os ts h = select_row b wr os ts (three_form wr os ts _ h.fits h.count h.leads h.operands)
 row_by b O.Freeze wr os ts h = freeze_row b wr os ts (one_form wr os ts _ h.fits h.count h.leads h.operands)
 row_by b O.Br wr os ts h = jump_row b wr os ts (jump_form wr os ts _ h.fits h.count h.leads)

@@ -50,6 +50,9 @@ names_free (O.ICmp p) r h = most_free r h
 names_free O.Trunc r h = most_free r h
 names_free O.SExt r h = most_free r h
 names_free (O.ZExt nneg) r h = most_free r h
+names_free O.PtrToInt r h = most_free r h
+names_free O.IntToPtr r h = most_free r h
+names_free O.AddrSpaceCast r h = most_free r h
 names_free O.Freeze r h = most_free r h
 
 entry_free : (τ : TypeTree) (e : Incoming) → IsIncoming τ e → AreFree (W.written_entry e)

@@ -175,6 +175,15 @@ word_undef = word_class (codes "undef") 29 refl
 pub word_zeroinitializer : llvm_class Word (codes "zeroinitializer") ≡ 29
 word_zeroinitializer = word_class (codes "zeroinitializer") 29 refl
 
+pub word_bitcast : llvm_class Word (codes "bitcast") ≡ 30
+word_bitcast = word_class (codes "bitcast") 30 refl
+
+pub word_inttoptr : llvm_class Word (codes "inttoptr") ≡ 30
+word_inttoptr = word_class (codes "inttoptr") 30 refl
+
+pub word_ptrtoint : llvm_class Word (codes "ptrtoint") ≡ 30
+word_ptrtoint = word_class (codes "ptrtoint") 30 refl
+
 pub word_add : llvm_class Word (codes "add") ≡ 31
 word_add = word_class (codes "add") 31 refl
 

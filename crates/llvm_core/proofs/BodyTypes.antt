@@ -5,12 +5,16 @@ use Rattle.std.specs.Option.{option_map, option_map_or}
 use Rattle.std.proofs.lemmas.List.{length-map, map-append}
 use Rattle.std.proofs.lemmas.List.Elements.{All-nil, All-cons, All-head, All-tail, All-weaker}
 use Rattle.std.proofs.lemmas.Option.{slice_get-map}
-use Rattle.support.proofs.ListLaws.{slice_get-behind}
-use Rattle.kinds.specs.Types.{TypeTree, VoidType}
+use Rattle.support.proofs.ListLaws.{item_there, slice_get-behind}
+use Rattle.kinds.specs.declared.types.Lanes.{Lanes}
+use Rattle.kinds.specs.declared.types.Lanes.TheVariants as B
+use Rattle.kinds.specs.declared.types.VectorTypeKind.{VectorTypeKind}
+use Rattle.kinds.specs.Types.{TypeTree, VoidType, IntType, VectorType, in_lanes}
 use Rattle.kinds.specs.Typing.{fits_trees, typed}
 use Rattle.llvm_core.specs.declared.numbers.LLVMType.{LLVMType}
 use Rattle.llvm_core.specs.declared.numbers.LLVMFunction.{LLVMFunction}
 use Rattle.llvm_core.specs.declared.numbers.LLVMBasicBlock.{LLVMBasicBlock}
+use Rattle.llvm_core.specs.declared.types.LLVMTypeKind.{LLVMTypeKind}
 use Rattle.llvm_core.specs.declared.types.LLVMTypeKind.TheVariants as T
 use Rattle.llvm_core.specs.declared.types.ResultType.{ResultType}
 use Rattle.llvm_core.specs.declared.types.ResultType.TheVariants as R
@@ -25,11 +29,12 @@ use Rattle.llvm_core.specs.declared.bodies.BodyBlock.{BodyBlock}
 use Rattle.support.specs.Changes.{with_change}
 use Rattle.llvm_core.specs.Module.{Module}
 use Rattle.llvm_core.specs.Code.{param_names}
-use Rattle.llvm_core.specs.Parts.{IsValue, IsBlock, IsEntry, HasParts, IsResultOver, param_types, value_type, view, type_nth, view_nth, row_fits, row_result}
-use Rattle.llvm_core.specs.Sound.{StandsFor, IsModule}
-use Rattle.llvm_core.specs.Data.{type_at, trees_of, tree_of_result}
+use Rattle.llvm_core.specs.Parts.{IsTypeOver, IsValue, IsBlock, IsEntry, HasParts, IsResultOver, param_types, value_type, view, type_nth, view_nth, row_fits, row_result}
+use Rattle.llvm_core.specs.Sound.{IsOfBits, StandsFor, IsModule}
+use Rattle.llvm_core.specs.Data.{type_at, type_tree, trees_of, tree_of_result}
 use Rattle.llvm_core.specs.Bodies.{IsBodyInst, added, block_numbers, body_blocks, body_insts, inst_in}
 use Rattle.llvm_core.proofs.ApartLemmas.{apart, kind_apart}
+use Rattle.llvm_core.proofs.DataLemmas.{type_tree_of}
 use Rattle.llvm_core.proofs.WithinLemmas.{result_within}
 use Rattle.llvm_core.proofs.GrowLemmas.{inst_type, value_kept, value_type_kept}
 use Rattle.llvm_core.proofs.RuleLaws.{fits_by_tree, result_by_tree}
@@ -226,12 +231,32 @@ module _ (m : Module) (f : LLVMFunction) (body : List BodyBlock) (s : IsModule m
       ap (option_map (tree_of_result (trees_of m).types)) (sym (same_result r)) ∙ result_by_tree bare bare_sound r (parts_there r h)
       ∙ ap (typed r.op (option_map tree r.written)) (same_trees r.operands)
 
+  -- a type of a tree that is a vector is one, of an element of that tree
+  vector_there : (ty : LLVMType) (kind : VectorTypeKind) (count : ℕ) (u : TypeTree) → ty.0 < length m.types → VectorType kind count u ≡ tree ty
+      → (e : LLVMType) × (slice_get m.types ty.0 ≡ Some (T.Vector kind count e)) × (e.0 < ty.0) × (tree e ≡ u)
+  vector_there ty kind count u lt h = let k = item_there m.types ty.0 lt in by k.0 k.1 (s.types ty.0 k.0 k.1) (h ∙ type_tree_of m ty k.0 s k.1)
+    where
+      by : (k : LLVMTypeKind) → slice_get m.types ty.0 ≡ Some k → IsTypeOver ty.0 k → VectorType kind count u ≡ type_tree (trees_of m).types k
+          → (e : LLVMType) × (slice_get m.types ty.0 ≡ Some (T.Vector kind count e)) × (e.0 < ty.0) × (tree e ≡ u)
+      by (T.Vector l n e) at over is =
+          let a : l ≡ kind = (cc) in
+          let b : n ≡ count = (cc) in
+          let c : tree e ≡ u = (cc) in
+          (e, at ∙ ap (λ (x : VectorTypeKind). Some (T.Vector x n e)) a ∙ ap (λ (x : ℕ). Some (T.Vector kind x e)) b, over, c)
+      by k at over is = absurd (cc)
+
+  bits_stand : (lanes : Lanes) (ty : LLVMType) → ty.0 < length m.types → in_lanes lanes (IntType 1) ≡ tree ty → IsOfBits m.types lanes ty
+  bits_stand B.One ty lt e = kind_apart m ty (T.Int 1) s lt (omega arith, omega arith) (sym e)
+  bits_stand (B.Many kind count) ty lt e =
+      let v = vector_there ty kind count (IntType 1) lt e in
+      (v.0, v.1, kind_apart m v.0 (T.Int 1) s (omega (arith, lt, v.2)) (omega arith, omega arith) v.3)
+
   -- a type stands for a result where its tree is that of the result
   stands : (o : Option ResultType) (ty : LLVMType) → ((r : ResultType) → o ≡ Some r → IsResultOver m.types r) → ty.0 < length m.types
       → option_map_or (tree_of_result (trees_of m).types) o VoidType ≡ tree ty → StandsFor m.types o ty
   stands None ty over lt e = kind_apart m ty T.Void s lt tt (sym e)
   stands (Some (R.There t)) ty over lt e = (apart m s).types ty t lt (over (R.There t) refl) (sym e)
-  stands (Some R.Bit) ty over lt e = kind_apart m ty (T.Int 1) s lt (omega arith, omega arith) (sym e)
+  stands (Some (R.Bits lanes)) ty over lt e = bits_stand lanes ty lt e
 
   -- a type stands for a row's result where its tree is what the table says of the trees of what the row names, which is void where it says none
   pub body_stands : (r : Row) (ty : LLVMType) → HasParts real r → ty.0 < length m.types

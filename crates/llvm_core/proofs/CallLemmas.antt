@@ -27,14 +27,16 @@ use Rattle.llvm_core.specs.declared.code.InstData.{InstData}
 use Rattle.std.specs.Prelude.{IfSome}
 use Rattle.llvm_core.specs.Module.{Module}
 use Rattle.llvm_core.specs.Code.{code_of, with_code, with_param_name, with_block, with_inst}
-use Rattle.llvm_core.specs.Parts.{IsValue, HasValues, IsEntry, IsResultOver, IsResultType, made_kind, result_type}
+use Rattle.llvm_core.specs.Parts.{IsValue, HasValues, IsEntry, IsResultOver, IsResultType, result_type}
 use Rattle.llvm_core.specs.Sound.{IsModule, IsInstIn}
 use Rattle.llvm_core.specs.Data as d
 use Rattle.llvm_core.specs.Data.{Trees, type_at, const_at, trees_of, operand_of, entry_of, instruction_of, tree_of_result, result_tree, placed_of, placed_at, block_of, block_at, function_of, structs_of, data_of, with_instruction_in, VoidType, type_trees, const_trees}
 use Rattle.llvm_core.proofs.ChangeLemmas.{mapped_same, mapped_push, mapped_then, mapped_change, filter_map-same, filter_map-mapped, slice_get-changed, slice_get-unchanged}
 use Rattle.support.proofs.ListLaws.{slice_get-push, item_there, slice_get-before}
 use Rattle.llvm_core.proofs.TreeLemmas.{type_at-kept, type_at-kind, const_trees-retyped, const_at-kept}
-use Rattle.llvm_core.proofs.SoundLemmas.{made_only}
+use Rattle.llvm_core.proofs.SoundLemmas.{result_stands}
+use Rattle.llvm_core.proofs.GrowLemmas.{types_more}
+use Rattle.llvm_core.proofs.DataLemmas.{bits_tree_of}
 use Rattle.llvm_core.proofs.StructLemmas.{structs_same}
 use Rattle.llvm_core.proofs.WithinLemmas.{const_types_within, result_within}
 
@@ -121,13 +123,16 @@ retyped m types more e s = record {
   consts = λ c lt. ap (λ cs. const_at cs c) (ap (λ ks. const_trees (type_trees ks) m.consts) e ∙ const_trees-retyped m.types more m.consts (const_types_within m s));
 }
 
-pub type_data : (m : Module) (types : List LLVMTypeKind) (k : LLVMTypeKind) → IsModule m → (types ≡ m.types) ⊎ (types ≡ m.types ++ k ∷ []) → data_of (record m { types = types }) ≡ data_of m
-type_data m types k s h =
-    let more = added m.types types k h in
-    let same = functions_same m (trees_of (record m { types = types })) (trees_of m) s (retyped m types more.0 more.1 s) in
-    let fields = structs_same m.types (trees_of (record m { types = types })).types (trees_of m).types (retyped m types more.0 more.1 s).types m.structs s.structs in
+-- more types leave the data
+types_data : (m : Module) (types more : List LLVMTypeKind) → IsModule m → types ≡ m.types ++ more → data_of (record m { types = types }) ≡ data_of m
+types_data m types more s h =
+    let same = functions_same m (trees_of (record m { types = types })) (trees_of m) s (retyped m types more h s) in
+    let fields = structs_same m.types (trees_of (record m { types = types })).types (trees_of m).types (retyped m types more h s).types m.structs s.structs in
     ap (λ ss. let d : d.ModuleData = record { name = m.name; structs = ss; functions = (data_of (record m { types = types })).functions } in d) fields
     ∙ ap (λ fs. let d : d.ModuleData = record { name = m.name; structs = structs_of m; functions = fs } in d) same
+
+pub type_data : (m : Module) (types : List LLVMTypeKind) (k : LLVMTypeKind) → IsModule m → (types ≡ m.types) ⊎ (types ≡ m.types ++ k ∷ []) → data_of (record m { types = types }) ≡ data_of m
+type_data m types k s h = let more = added m.types types k h in types_data m types more.0 s more.1
 
 pub const_data : (m : Module) (consts : List LLVMConstKind) (k : LLVMConstKind) → IsModule m → (consts ≡ m.consts) ⊎ (consts ≡ m.consts ++ k ∷ []) → data_of (record m { consts = consts }) ≡ data_of m
 const_data m consts k s h =
@@ -291,22 +296,20 @@ result_shown : (old new : Module) (ty : LLVMType) (o : Option ResultType) → Is
     → type_at (trees_of new).types ty ≡ option_map_or (tree_of_result (trees_of old).types) o VoidType
 result_shown old new ty None s same there h = type_at-kind new.types ty T.Void h.here tt
 result_shown old new ty (Some (R.There t)) s same there h = ap (type_at (trees_of new).types) h.0 ∙ same.types t (there (R.There t) refl)
-result_shown old new ty (Some R.Bit) s same there h = type_at-kind new.types ty (T.Int 1) h.here (omega arith, omega arith)
+result_shown old new ty (Some (R.Bits lanes)) s same there h = bits_tree_of new ty lanes s (result_stands (Some (R.Bits lanes)) old.types new.types ty h)
 
 pub inst_data : (old : Module) (types : List LLVMTypeKind) (b : LLVMBasicBlock) (i : LLVMInstRef) (name : List ℕ) (ty : LLVMType) (inst : LLVMInst) → IsModule old → IsModule (record old { types = types })
     → i.0 ≡ length old.insts → HasValues old inst → IsResultType (result_type old inst) old.types types ty
     → data_of (with_code (record old { types = types }) (with_inst (code_of old) b i name ty inst))
     ≡ d.with_instruction (data_of old) b.0 (record { number = i.0; name = name; type = result_tree old inst; instruction = instruction_of (trees_of old) inst })
 inst_data old types b i name ty inst s grown last values typed =
-    let made = made_kind (result_type old inst) in
-    let only = made_only (result_type old inst) old.types types ty typed in
-    let more = added old.types types made only in
+    let more = types_more (result_type old inst) old.types types ty typed in
     let same = retyped old types more.0 more.1 s in
     let new : Module = record old { types = types } in
     let e = result_shown old new ty (result_type old inst) grown same (λ r e. result_within old inst r s values e) typed in
     let f = instruction_same old (trees_of new) (trees_of old) same inst values in
     inst_appended new b i name ty inst grown last
-    ∙ ap (λ (m : d.ModuleData). d.with_instruction m b.0 (placed_of (trees_of new) i (record { name = name; block = b; ty = ty; inst = inst }))) (type_data old types made s only)
+    ∙ ap (λ (m : d.ModuleData). d.with_instruction m b.0 (placed_of (trees_of new) i (record { name = name; block = b; ty = ty; inst = inst }))) (types_data old types more.0 s more.1)
     ∙ ap (λ (p : d.Placed). d.with_instruction (data_of old) b.0 p)
     (let two : (t u : d.TypeTree) (v w : d.Instruction) → t ≡ u → v ≡ w → (let p : d.Placed = record { number = i.0; name = name; type = t; instruction = v } in p) ≡ record { number = i.0; name = name; type = u; instruction = w } = λ t u v w p q. (cc) in
     two _ _ _ _ e f)

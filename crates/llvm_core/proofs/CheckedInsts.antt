@@ -29,7 +29,7 @@ use Rattle.llvm_core.specs.Sound.{IsModule, StandsFor}
 use Rattle.llvm_core.specs.Data.{TypeTree, VoidType, Operand, Block, type_at, trees_of, tree_of_result, entry_of, operand_of, row_of, instruction_of, operand_type}
 use Rattle.llvm_core.specs.Checked.{returns_void, MisfitsType, misfits_row, misfits_return, is_counted, misfits_count, is_outside, is_block_outside, is_entry_outside, reaches_outside, MisfitsEdges, sources}
 use Rattle.llvm_core.specs.Form.{IsOperand, IsTarget, FitsEdges, edges_between, IsFormRow, IsFormInstruction, operands_of}
-use Rattle.llvm_core.proofs.DataLemmas.{within_at, void_tree_of, int_tree_of}
+use Rattle.llvm_core.proofs.DataLemmas.{within_at, void_tree_of, bits_tree_of}
 use Rattle.llvm_core.proofs.PhiLemmas.{same_block}
 use Rattle.llvm_core.proofs.DecideLemmas.{type_decided, value_decided}
 use Rattle.llvm_core.proofs.GivenLemmas.{none_any_at}
@@ -101,7 +101,7 @@ module _ (m : Module) (f : ℕ) (x : FunctionData) (sound : IsModule m) (at : sl
   result_stood : (o : Option ResultType) (ty : LLVMType) → StandsFor m.types o ty → type_at (trees_of m).types ty ≡ unwrap_or (option_map (tree_of_result (trees_of m).types) o) VoidType
   result_stood None ty h = void_tree_of m ty sound h
   result_stood (Some (R.There t)) ty h = ap (type_at (trees_of m).types) h
-  result_stood (Some R.Bit) ty h = int_tree_of m ty 1 sound h
+  result_stood (Some (R.Bits lanes)) ty h = bits_tree_of m ty lanes sound h
 
   module _ (b : ℕ) (own : TypeTree) (ty : LLVMType) (own_is : own ≡ type_at (trees_of m).types ty) where
     -- ---- phis

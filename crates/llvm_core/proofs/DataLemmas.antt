@@ -18,12 +18,15 @@ use Rattle.llvm_core.specs.declared.consts.LLVMConstKind.TheVariants as C
 use Rattle.llvm_core.specs.declared.code.FunctionData.{FunctionData}
 use Rattle.llvm_core.specs.declared.code.BlockData.{BlockData}
 use Rattle.llvm_core.specs.declared.code.InstData.{InstData}
+use Rattle.kinds.specs.declared.types.Lanes.{Lanes}
+use Rattle.kinds.specs.declared.types.Lanes.TheVariants as B
+use Rattle.kinds.specs.Types.{in_lanes}
 use Rattle.kinds.specs.Held.{width_in}
 use Rattle.llvm_core.specs.Module.{Module}
 use Rattle.llvm_core.specs.Parts as parts
 use Rattle.llvm_core.specs.Consts.{IsConstIn, IsMadeBelow}
-use Rattle.llvm_core.specs.Sound.{IsModule}
-use Rattle.llvm_core.specs.Data.{VoidType, IntType, FunctionType, ConstTree, IntConst, FilledConst, PlaceholderConst, Placed, Block, type_at, types_at, type_tree, const_at, const_tree, const_type, trees_of, placed_of, placed_at, block_of, block_at, function_of, data_of}
+use Rattle.llvm_core.specs.Sound.{IsOfBits, IsModule}
+use Rattle.llvm_core.specs.Data.{VoidType, IntType, VectorType, FunctionType, ConstTree, IntConst, FilledConst, PlaceholderConst, Placed, Block, type_at, types_at, type_tree, const_at, const_tree, const_type, trees_of, placed_of, placed_at, block_of, block_at, function_of, data_of}
 use Rattle.llvm_core.proofs.TreeLemmas.{type_at-kind, const_at-kind}
 
 -- ---- types and constants
@@ -37,6 +40,10 @@ void_tree_of m t s at = type_tree_of m t T.Void s at
 
 pub int_tree_of : (m : Module) (t : LLVMType) (width : ℕ) → IsModule m → slice_get m.types t.0 ≡ Some (T.Int width) → type_at (trees_of m).types t ≡ IntType width
 int_tree_of m t width s at = type_tree_of m t (T.Int width) s at
+
+pub bits_tree_of : (m : Module) (t : LLVMType) (lanes : Lanes) → IsModule m → IsOfBits m.types lanes t → type_at (trees_of m).types t ≡ in_lanes lanes (IntType 1)
+bits_tree_of m t B.One s at = int_tree_of m t 1 s at
+bits_tree_of m t (B.Many kind count) s (bit, at, is) = type_tree_of m t (T.Vector kind count bit) s at ∙ ap (VectorType kind count) (int_tree_of m bit 1 s is)
 
 pub function_tree_of : (m : Module) (t result : LLVMType) (params : List LLVMType) (variadic : _) → IsModule m → slice_get m.types t.0 ≡ Some (T.Function result params variadic)
     → type_at (trees_of m).types t ≡ FunctionType (type_at (trees_of m).types result) (types_at (trees_of m).types params) variadic

@@ -3,7 +3,7 @@ use Rattle.std.proofs.Common.{◌≡◌, ◌<◌, ◌≤◌, ℕ, Bool, true, if
 use Rattle.std.specs.List.{find}
 use Rattle.std.specs.Option.{option_map, option_map_or}
 use Rattle.std.proofs.lemmas.List.Elements.{All-weaker}
-use Rattle.std.proofs.lemmas.List.{append-nil}
+use Rattle.std.proofs.lemmas.List.{append-nil, append_assoc}
 use Rattle.support.proofs.InternedLaws.{interned_more}
 use Rattle.support.proofs.ListLaws.{item_there, slice_get-kept}
 use Rattle.llvm_core.specs.declared.numbers.LLVMType.{LLVMType}
@@ -28,19 +28,28 @@ use Rattle.llvm_core.specs.declared.code.InstData.{InstData}
 use Rattle.llvm_core.specs.Module.{Module}
 use Rattle.llvm_core.specs.Code.{param_names}
 use Rattle.llvm_core.specs.Consts.{IsElement, AreElements, IsListOf, IsLaneOf, IsConstIn, IsMadeBelow, told, fill_of, int_of, is_byte_array, list_form, form_over}
-use Rattle.llvm_core.specs.Parts.{IsTypeOver, IsFunctionType, IsValue, HasValues, IsBlock, IsEntry, const_type, type_params, kind_params, param_types, value_type, result_type, IsResultType, type_nth, view_nth, view, shape_of, shape_at, is_kind}
+use Rattle.llvm_core.specs.Parts.{IsTypeOver, IsFunctionType, IsValue, HasValues, IsBlock, IsEntry, const_type, type_params, kind_params, param_types, value_type, result_type, IsResultType, AreBits, MayMake, type_nth, view_nth, view, given, shape_of, shape_at, laned_of, laned_at, is_kind}
 use Rattle.std.proofs.Common.{All, zero, suc, ◌∷◌, nat_eq, false}
 use Rattle.std.proofs.lemmas.Option.{slice_get_within, same_Some}
 use Rattle.kinds.specs.Fitting.{width_of}
 use Rattle.kinds.specs.declared.types.VectorTypeKind.TheVariants as N
 use Rattle.llvm_core.specs.declared.numbers.LLVMConst.{LLVMConst}
-use Rattle.std.specs.Prelude.{IfSome}
+use Rattle.std.proofs.Common.{inl}
+use Rattle.std.specs.Prelude.{IfSome, IfOk, Result, Ok, Err}
+use Rattle.support.specs.Interned.{Interned}
 use Rattle.std.proofs.lemmas.List.Elements.{All-head, All-tail, All-nil, All-cons}
 use Rattle.kinds.specs.Fill.{is_own_fill}
 use Rattle.kinds.specs.declared.fitting.Shape.{Shape}
 use Rattle.kinds.specs.declared.fitting.Shape.TheVariants as S
+use Rattle.kinds.specs.declared.fitting.Laned.{Laned}
 use Rattle.kinds.specs.declared.fitting.TypeView.{TypeView}
-use Rattle.llvm_core.specs.Sound.{IsFunctionIn, IsBlockIn, IsInstIn, IsListedBlock, IsListedInst, StandsFor, IsModule}
+use Rattle.kinds.specs.declared.types.Lanes.{Lanes}
+use Rattle.kinds.specs.declared.types.Lanes.TheVariants as B
+use Rattle.kinds.specs.declared.rules.Gives.{Gives}
+use Rattle.kinds.specs.declared.rules.Gives.TheVariants as G
+use Rattle.kinds.specs.Types.{one, many}
+use Rattle.kinds.specs.Table.{rule_of}
+use Rattle.llvm_core.specs.Sound.{IsFunctionIn, IsBlockIn, IsInstIn, IsListedBlock, IsListedInst, IsOfBits, StandsFor, IsModule}
 use Rattle.llvm_core.proofs.WithinLemmas.{type_nth_within, param_there}
 use Rattle.llvm_core.proofs.ListedLemmas.{KeepsLists}
 
@@ -254,18 +263,36 @@ type_nth_kept m n g s [] i h = refl
 type_nth_kept m n g s (v ∷ vs) zero h = value_type_kept m n g s v (All-head (IsValue m) v vs h)
 type_nth_kept m n g s (v ∷ vs) (suc i) h = type_nth_kept m n g s vs i (All-tail (IsValue m) v vs h)
 
-view_kept : (m n : Module) → Grows m n → (t : LLVMType) → t.0 < length m.types → view n.types t ≡ view m.types t
-view_kept m n g t lt =
-    let k = item_there m.types t.0 lt in
-    let with_shape : Shape → TypeView = λ s. record { number = t.0; shape = s } in
-    ap (λ o. with_shape (option_map_or shape_of o S.Void)) (g.types t.0 k.0 k.1 ∙ sym k.1)
+kind_laned_kept : (m n : Module) → Grows m n → (k : LLVMTypeKind) (i : ℕ) → i < length m.types → IsTypeOver i k → laned_of n.types k ≡ laned_of m.types k
+kind_laned_kept m n g (T.Vector kind count t) i lt over = ap (many kind count) (same_shape m n g t (omega (arith, lt, over)))
+kind_laned_kept m n g k i lt over = refl
 
-some_view_kept : (m n : Module) → Grows m n → (o : Option LLVMType) → ((t : LLVMType) → o ≡ Some t → t.0 < length m.types) → option_map (view n.types) o ≡ option_map (view m.types) o
-some_view_kept m n g None h = refl
-some_view_kept m n g (Some t) h = ap Some (view_kept m n g t (h t refl))
+-- the lanes of a type stay
+pub laned_kept : (m n : Module) → Grows m n → IsModule m → (t : LLVMType) → t.0 < length m.types → laned_at n.types t ≡ laned_at m.types t
+laned_kept m n g s t lt =
+    let k = item_there m.types t.0 lt in
+    ap (λ o. option_map_or (laned_of n.types) o (one S.Void)) (g.types t.0 k.0 k.1) ∙ kind_laned_kept m n g k.0 t.0 lt (s.types t.0 k.0 k.1) ∙ sym (ap (λ o. option_map_or (laned_of m.types) o (one S.Void)) k.1)
+
+view_kept : (m n : Module) → Grows m n → IsModule m → (t : LLVMType) → t.0 < length m.types → view n.types t ≡ view m.types t
+view_kept m n g s t lt =
+    let with_lanes : Laned → TypeView = λ l. record { number = t.0; laned = l } in
+    ap with_lanes (laned_kept m n g s t lt)
+
+some_view_kept : (m n : Module) → Grows m n → IsModule m → (o : Option LLVMType) → ((t : LLVMType) → o ≡ Some t → t.0 < length m.types) → option_map (view n.types) o ≡ option_map (view m.types) o
+some_view_kept m n g s None h = refl
+some_view_kept m n g s (Some t) h = ap Some (view_kept m n g s t (h t refl))
 
 view_nth_kept : (m n : Module) → Grows m n → IsModule m → (vs : List LLVMValue) (i : ℕ) → All (IsValue m) vs → view_nth n vs i ≡ view_nth m vs i
-view_nth_kept m n g s vs i h = ap (option_map (view n.types)) (type_nth_kept m n g s vs i h) ∙ some_view_kept m n g (type_nth m vs i) (λ t e. type_nth_within m vs i t s h e)
+view_nth_kept m n g s vs i h = ap (option_map (view n.types)) (type_nth_kept m n g s vs i h) ∙ some_view_kept m n g s (type_nth m vs i) (λ t e. type_nth_within m vs i t s h e)
+
+-- a line for each word
+given_kept : (m n : Module) → Grows m n → IsModule m → (k : Gives) (w a b : Option LLVMType) → ((t : LLVMType) → a ≡ Some t → t.0 < length m.types) → given n.types k w a b ≡ given m.types k w a b
+given_kept m n g s G.Nothing w a b h = refl
+given_kept m n g s G.First w a b h = refl
+given_kept m n g s G.Second w a b h = refl
+given_kept m n g s G.Written w a b h = refl
+given_kept m n g s G.Bits w None b h = refl
+given_kept m n g s G.Bits w (Some t) b h = ap (λ (l : Laned). Some (R.Bits l.lanes)) (laned_kept m n g s t (h t refl))
 
 -- the type of a result stays
 pub result_kept : (m n : Module) → Grows m n → IsModule m → (i : LLVMInst) → HasValues m i → result_type n i ≡ result_type m i
@@ -276,13 +303,18 @@ result_kept m n g s (I.Row r) h =
     let k = view_nth_kept m n g s r.operands 2 h.0 in
     let a = type_nth_kept m n g s r.operands 0 h.0 in
     let b = type_nth_kept m n g s r.operands 1 h.0 in
-    let w = some_view_kept m n g r.written (λ t at. subst (λ (o : Option LLVMType). IfSome o (λ (x : LLVMType). x.0 < length m.types)) at h.2) in
+    let same = given_kept m n g s (rule_of r.op).gives r.written (type_nth m r.operands 0) (type_nth m r.operands 1) (λ t at. type_nth_within m r.operands 0 t s h.0 at) in
+    let w = some_view_kept m n g s r.written (λ t at. subst (λ (o : Option LLVMType). IfSome o (λ (x : LLVMType). x.0 < length m.types)) at h.2) in
     cc
+
+bits_kept : (m n : Module) → Grows m n → (lanes : Lanes) (ty : LLVMType) → IsOfBits m.types lanes ty → IsOfBits n.types lanes ty
+bits_kept m n g B.One ty h = g.types ty.0 (T.Int 1) h
+bits_kept m n g (B.Many kind count) ty (bit, here, is) = (bit, g.types ty.0 (T.Vector kind count bit) here, g.types bit.0 (T.Int 1) is)
 
 pub stands_kept : (m n : Module) → Grows m n → (r : Option ResultType) (ty : LLVMType) → StandsFor m.types r ty → StandsFor n.types r ty
 stands_kept m n g None ty h = g.types ty.0 T.Void h
 stands_kept m n g (Some (R.There t)) ty h = h
-stands_kept m n g (Some R.Bit) ty h = g.types ty.0 (T.Int 1) h
+stands_kept m n g (Some (R.Bits lanes)) ty h = bits_kept m n g lanes ty h
 
 pub inst_kept : (m n : Module) → Grows m n → IsModule m → (x : InstData) → IsInstIn m x → IsInstIn n x
 inst_kept m n g s x h = record {
@@ -306,8 +338,27 @@ param_at_kept types more t place x h = by (slice_get types t.0) refl h
     by None e h = absurd cc
     by (Some k) e h = rw (slice_get-kept types more t.0 k e) h
 
+bits_more : (lanes : Lanes) (old new : List LLVMTypeKind) (ty : LLVMType) → AreBits lanes old new ty → (more : List LLVMTypeKind) × (new ≡ old ++ more)
+bits_more B.One old new ty h = interned_more old new (T.Int 1) ty.0 h
+bits_more (B.Many kind count) old new ty (between, bit, first, last) =
+    let a = interned_more old between (T.Int 1) bit.0 first in
+    let b = interned_more between new (T.Vector kind count bit) ty.0 last in
+    (a.0 ++ b.0, b.1 ∙ ap (λ (ks : List LLVMTypeKind). ks ++ b.0) a.1 ∙ append_assoc old a.0 b.0)
+
 -- the types of a module in which a result got its type are those before it, and more
 pub types_more : (r : Option ResultType) (old new : List LLVMTypeKind) (ty : LLVMType) → IsResultType r old new ty → (more : List LLVMTypeKind) × (new ≡ old ++ more)
 types_more None old new ty h = interned_more old new T.Void ty.0 h
 types_more (Some (R.There t)) old new ty h = ([], h.1 ∙ sym (append-nil old))
-types_more (Some R.Bit) old new ty h = interned_more old new (T.Int 1) ty.0 h
+types_more (Some (R.Bits lanes)) old new ty h = bits_more lanes old new ty h
+
+-- what is left as it was may be what a result's type makes new
+pub makes_none : (r : Option ResultType) (old new : List LLVMTypeKind) → new ≡ old → MayMake r old new
+makes_none None old new h = inl h
+makes_none (Some (R.There t)) old new h = h
+makes_none (Some (R.Bits B.One)) old new h = inl h
+makes_none (Some (R.Bits (B.Many kind count))) old new h = (old, record { 0 = 0 }, inl refl, inl h)
+
+-- a type that was given a number is there
+pub interned_within : {E : Type 0} (r : Result LLVMType E) (old new : List LLVMTypeKind) (k : LLVMTypeKind) → IfOk r (λ (t : LLVMType). Interned old new k t.0) → IfOk r (λ (t : LLVMType). t.0 < length new)
+interned_within (Ok t) old new k h = slice_get_within new t.0 k h.here
+interned_within (Err e) old new k h = tt

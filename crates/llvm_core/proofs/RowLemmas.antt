@@ -21,7 +21,7 @@ use Rattle.llvm_core.specs.Sound.{StandsFor, IsModule}
 module _ (m : Module) (i : LLVMInstRef) (r : Row) (t : LLVMType) (k : LLVMTypeKind) (sound : IsModule m) (type_is : value_type m (V.Inst i) ≡ Some t) (kind_is : slice_get m.types t.0 ≡ Some k) where
   void_of : (x : InstData) → slice_get m.insts i.0 ≡ Some x → x.inst ≡ I.Row r → row_fits m r ≡ false → is_void k ≡ true
   void_of x at row unfit =
-      let none : row_result m r ≡ None = ap (λ (b : Bool). if b then given (rule_of r.op).gives r.written (type_nth m r.operands 0) (type_nth m r.operands 1) else None) unfit in
+      let none : row_result m r ≡ None = ap (λ (b : Bool). if b then given m.types (rule_of r.op).gives r.written (type_nth m r.operands 0) (type_nth m r.operands 1) else None) unfit in
       let stands : StandsFor m.types (result_type m (I.Row r)) x.ty = subst (λ (j : LLVMInst). StandsFor m.types (result_type m j) x.ty) row (sound.insts i.0 x at).result in
       let void : slice_get m.types x.ty.0 ≡ Some T.Void = subst (λ (o : Option ResultType). StandsFor m.types o x.ty) none stands in
       let type : t ≡ x.ty = same_Some t x.ty (sym type_is ∙ ap (option_map (λ (y : InstData). y.ty)) at) in

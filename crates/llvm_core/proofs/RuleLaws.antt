@@ -7,11 +7,12 @@ use Rattle.std.specs.Option.{option_map, option_map_or}
 use Rattle.std.proofs.lemmas.List.Elements.{All-head, All-tail}
 use Rattle.kinds.specs.declared.rules.Gives.{Gives}
 use Rattle.kinds.specs.declared.rules.Gives.TheVariants as G
+use Rattle.kinds.specs.declared.fitting.Laned.{Laned}
 use Rattle.kinds.specs.declared.fitting.TypeView.{TypeView}
 use Rattle.kinds.specs.declared.fitting.Shape.TheVariants as S
-use Rattle.kinds.specs.Types.{TypeTree, VoidType, shape, same_tree}
+use Rattle.kinds.specs.Types.{TypeTree, VoidType, IntType, shape, one, many, laned, in_lanes, bits_of, same_tree}
 use Rattle.kinds.specs.Table.{rule_of}
-use Rattle.kinds.specs.Fitting.{view_shape, view_same}
+use Rattle.kinds.specs.Fitting.{view_laned, view_same}
 use Rattle.kinds.specs.Typing.{fits_trees, typed}
 use Rattle.kinds.specs.Typing.{given as given_tree}
 use Rattle.kinds.proofs.TypeLaws.{tree_self, tree_told}
@@ -20,6 +21,7 @@ use Rattle.support.proofs.ListLaws.{item_there}
 use Rattle.llvm_core.specs.declared.numbers.LLVMType.{LLVMType}
 use Rattle.llvm_core.specs.declared.numbers.LLVMFunction.{LLVMFunction}
 use Rattle.llvm_core.specs.declared.types.LLVMTypeKind.{LLVMTypeKind}
+use Rattle.llvm_core.specs.declared.types.LLVMTypeKind.TheVariants as T
 use Rattle.llvm_core.specs.declared.types.ResultType.TheVariants as R
 use Rattle.llvm_core.specs.declared.code.LLVMValue.{LLVMValue}
 use Rattle.llvm_core.specs.declared.code.LLVMValue.TheVariants as V
@@ -29,7 +31,7 @@ use Rattle.llvm_core.specs.declared.code.Row.{Row}
 use Rattle.llvm_core.specs.Module.{Module}
 use Rattle.llvm_core.specs.Code.{param_names}
 use Rattle.llvm_core.specs.Sound.{IsModule}
-use Rattle.llvm_core.specs.Parts.{IsValue, HasParts, value_type, const_type, kind_params, type_params, shape_of, view, type_nth, view_nth, given, row_fits, row_result}
+use Rattle.llvm_core.specs.Parts.{IsTypeOver, shape_at, laned_of, laned_at, bits_at, IsValue, HasParts, value_type, const_type, kind_params, type_params, shape_of, view, type_nth, view_nth, given, row_fits, row_result}
 use Rattle.llvm_core.specs.Data.{type_tree, type_at, trees_of, tree_of_result}
 use Rattle.llvm_core.proofs.ApartLemmas.{apart}
 use Rattle.llvm_core.proofs.DataLemmas.{type_tree_of}
@@ -55,13 +57,26 @@ module _ (m : Module) (s : IsModule m) where
   abbrev pub tree_of : LLVMValue → TypeTree
   tree_of v = option_map_or tree (value_type m v) VoidType
 
+  -- the shape and the lanes of a type that is there are those of its tree
+  shape_told : (t : LLVMType) → t.0 < length m.types → shape_at m.types t ≡ shape (tree t)
+  shape_told t lt =
+      let k = item_there m.types t.0 lt in
+      ap (λ o. option_map_or shape_of o S.Void) k.1 ∙ shape_kept (trees_of m).types k.0 ∙ ap shape (sym (type_tree_of m t k.0 s k.1))
+
+  kind_laned : (k : LLVMTypeKind) (n : ℕ) → n < length m.types → IsTypeOver n k → laned_of m.types k ≡ laned (type_tree (trees_of m).types k)
+  kind_laned (T.Vector kind count t) n lt over = ap (many kind count) (shape_told t (omega (arith, lt, over)))
+  kind_laned k n lt over = ap one (shape_kept (trees_of m).types k)
+
+  pub laned_told : (t : LLVMType) → t.0 < length m.types → laned_at m.types t ≡ laned (tree t)
+  laned_told t lt =
+      let k = item_there m.types t.0 lt in
+      ap (λ o. option_map_or (laned_of m.types) o (one S.Void)) k.1 ∙ kind_laned k.0 t.0 lt (s.types t.0 k.0 k.1) ∙ ap laned (sym (type_tree_of m t k.0 s k.1))
+
   abbrev IsGood : TypeView → Type 0
-  IsGood t = (t.number < length m.types) × (t.shape ≡ shape (named t))
+  IsGood t = (t.number < length m.types) × (t.laned ≡ laned (named t))
 
   good_view : (t : LLVMType) → t.0 < length m.types → IsGood (view m.types t)
-  good_view t lt =
-      let k = item_there m.types t.0 lt in
-      (lt, ap (λ o. option_map_or shape_of o S.Void) k.1 ∙ shape_kept (trees_of m).types k.0 ∙ ap shape (sym (type_tree_of m t k.0 s k.1)))
+  good_view t lt = (lt, laned_told t lt)
 
   told : (a b : TypeView) → IsGood a → IsGood b → same_tree (named a) (named b) ≡ view_same a b
   told a b g h = bool_by (same_tree (named a) (named b)) (view_same a b)
@@ -104,13 +119,18 @@ module _ (m : Module) (s : IsModule m) where
   there_tree None = refl
   there_tree (Some t) = refl
 
+  bits_tree : (o : Option LLVMType) → ((t : LLVMType) → o ≡ Some t → t.0 < length m.types) → option_map (tree_of_result (trees_of m).types) (option_map (bits_at m.types) o) ≡ option_map bits_of (option_map tree o)
+  bits_tree None h = refl
+  bits_tree (Some t) h = ap (λ (l : Laned). Some (in_lanes l.lanes (IntType 1))) (laned_told t (h t refl))
+
   -- a line for each word
-  given_by_tree : (g : Gives) (w a b : Option LLVMType) → option_map (tree_of_result (trees_of m).types) (given g w a b) ≡ given_tree g (option_map tree w) (option_map tree a) (option_map tree b)
-  given_by_tree G.Nothing w a b = refl
-  given_by_tree G.First w a b = there_tree a
-  given_by_tree G.Second w a b = there_tree b
-  given_by_tree G.Written w a b = there_tree w
-  given_by_tree G.Bit w a b = refl
+  given_by_tree : (g : Gives) (w a b : Option LLVMType) → ((t : LLVMType) → a ≡ Some t → t.0 < length m.types)
+      → option_map (tree_of_result (trees_of m).types) (given m.types g w a b) ≡ given_tree g (option_map tree w) (option_map tree a) (option_map tree b)
+  given_by_tree G.Nothing w a b h = refl
+  given_by_tree G.First w a b h = there_tree a
+  given_by_tree G.Second w a b h = there_tree b
+  given_by_tree G.Written w a b h = there_tree w
+  given_by_tree G.Bits w a b h = bits_tree a h
 
   -- ---- rows
 
@@ -121,7 +141,7 @@ module _ (m : Module) (s : IsModule m) where
       let at = λ (i : ℕ). nth_tree vs h.0 i ∙ sym (named_view (type_nth m vs i)) in
       let good = λ (i : ℕ). good_some (type_nth m vs i) (λ t e. type_nth_within m vs i t s h.0 e) in
       let good_written = good_some r.written (λ t e. subst (λ (o : Option LLVMType). IfSome o (λ (x : LLVMType). x.0 < length m.types)) e h.2) in
-      let e = fits_kept view_shape view_same shape same_tree named IsGood (λ t g. sym g.1) told (rule_of r.op) (length vs) (option_map (view m.types) r.written) (view_nth m vs 0) (view_nth m vs 1) (view_nth m vs 2)
+      let e = fits_kept view_laned view_same laned same_tree named IsGood (λ t g. sym g.1) told (rule_of r.op) (length vs) (option_map (view m.types) r.written) (view_nth m vs 0) (view_nth m vs 1) (view_nth m vs 2)
       good_written (good 0) (good 1) (good 2) in
       let w = sym (named_view r.written) in
       let a = at 0 in
@@ -135,9 +155,9 @@ module _ (m : Module) (s : IsModule m) where
   result_by_tree r h = by (row_fits m r) (fits_by_tree r h)
     where
       by : (b : Bool) → fits_trees r.op (option_map tree r.written) (map tree_of r.operands) ≡ b
-          → option_map (tree_of_result (trees_of m).types) (if b then given (rule_of r.op).gives r.written (type_nth m r.operands 0) (type_nth m r.operands 1) else None) ≡ typed r.op (option_map tree r.written) (map tree_of r.operands)
+          → option_map (tree_of_result (trees_of m).types) (if b then given m.types (rule_of r.op).gives r.written (type_nth m r.operands 0) (type_nth m r.operands 1) else None) ≡ typed r.op (option_map tree r.written) (map tree_of r.operands)
       by true e =
           let a = nth_tree r.operands h.0 0 in
           let b = nth_tree r.operands h.0 1 in
-          rw (e, a, b) (given_by_tree (rule_of r.op).gives r.written (type_nth m r.operands 0) (type_nth m r.operands 1))
+          rw (e, a, b) (given_by_tree (rule_of r.op).gives r.written (type_nth m r.operands 0) (type_nth m r.operands 1) (λ t at. type_nth_within m r.operands 0 t s h.0 at))
       by false e = rw e refl

@@ -11,6 +11,8 @@ use Rattle.llvm_core.specs.declared.numbers.LLVMFunction.{LLVMFunction}
 use Rattle.llvm_core.specs.declared.numbers.LLVMBasicBlock.{LLVMBasicBlock}
 use Rattle.llvm_core.specs.declared.numbers.LLVMInstRef.{LLVMInstRef}
 use Rattle.kinds.specs.declared.fitting.Shape.TheVariants as S
+use Rattle.kinds.specs.declared.types.Lanes.{Lanes}
+use Rattle.kinds.specs.declared.types.Lanes.TheVariants as B
 use Rattle.kinds.specs.Fitting.{is_field, is_array_of, is_vector_of}
 use Rattle.llvm_core.specs.declared.types.LLVMTypeKind.{LLVMTypeKind}
 use Rattle.llvm_core.specs.declared.types.LLVMTypeKind.TheVariants as T
@@ -25,12 +27,12 @@ use Rattle.support.specs.Interned.{Interned, IsDistinctList}
 use Rattle.llvm_core.specs.Module.{Module}
 use Rattle.llvm_core.specs.Code.{code_of, with_code, with_param_name, with_block, with_inst, param_names}
 use Rattle.llvm_core.specs.Consts.{IsConstIn, IsMadeBelow}
-use Rattle.llvm_core.specs.Parts.{IsTypeOver, HasFitParts, shape_at, IsFunctionType, HasValues, IsResultType, kind_params, made_kind, result_type}
-use Rattle.llvm_core.specs.Sound.{IsFunctionIn, OwnsBlocks, OwnsInsts, StandsFor, IsModule}
+use Rattle.llvm_core.specs.Parts.{IsTypeOver, HasFitParts, shape_at, IsFunctionType, HasValues, IsResultType, AreBits, kind_params, result_type}
+use Rattle.llvm_core.specs.Sound.{IsFunctionIn, OwnsBlocks, OwnsInsts, IsOfBits, StandsFor, IsModule}
 use Rattle.support.proofs.ListLaws.{slice_get-kept, slice_get-push, slice_get-push_cases, change_cases, distinct_nil, distinct_push, length-with_change, length-slice_set}
 use Rattle.llvm_core.proofs.DataLemmas.{within_at}
 use Rattle.llvm_core.proofs.StructLemmas.{shape_stays, structs_kept}
-use Rattle.llvm_core.proofs.GrowLemmas.{blocks_of, insts_of, KeepsTypes, function_type, inst_type, Grows, const_kept, made_below, function_kept, block_kept, inst_kept, values_kept, result_kept, listed_block_kept, listed_inst_kept}
+use Rattle.llvm_core.proofs.GrowLemmas.{types_more, blocks_of, insts_of, KeepsTypes, function_type, inst_type, Grows, const_kept, made_below, function_kept, block_kept, inst_kept, values_kept, result_kept, listed_block_kept, listed_inst_kept}
 use Rattle.llvm_core.proofs.ListedLemmas.{same_keeps, push_keeps, kept_or_changed, change_keeps, changed_there}
 
 -- ---- types of functions and instructions
@@ -441,25 +443,23 @@ inst_added m b i name ty inst s there last typed result values =
       ];
     }
 
--- the types got the type of a result
-pub made_only : (r : Option ResultType) (old new : List LLVMTypeKind) (ty : LLVMType) → IsResultType r old new ty → (new ≡ old) ⊎ (new ≡ old ++ made_kind r ∷ [])
-made_only None old new ty h = h.only
-made_only (Some (R.There t)) old new ty h = inl h.1
-made_only (Some R.Bit) old new ty h = h.only
+bits_stand : (lanes : Lanes) (old new : List LLVMTypeKind) (ty : LLVMType) → AreBits lanes old new ty → IsOfBits new lanes ty
+bits_stand B.One old new ty h = h.here
+bits_stand (B.Many kind count) old new ty (between, bit, first, last) = (bit, last.here, interned_kept between new (T.Vector kind count bit) ty.0 last bit.0 (T.Int 1) first.here)
 
-result_stands : (r : Option ResultType) (old new : List LLVMTypeKind) (ty : LLVMType) → IsResultType r old new ty → StandsFor new r ty
+pub result_stands : (r : Option ResultType) (old new : List LLVMTypeKind) (ty : LLVMType) → IsResultType r old new ty → StandsFor new r ty
 result_stands None old new ty h = h.here
 result_stands (Some (R.There t)) old new ty h = h.0
-result_stands (Some R.Bit) old new ty h = h.here
+result_stands (Some (R.Bits lanes)) old new ty h = bits_stand lanes old new ty h
 
-retyped_grows : (m : Module) (types : List LLVMTypeKind) (k : LLVMTypeKind) → (types ≡ m.types) ⊎ (types ≡ m.types ++ k ∷ []) → Grows m (record m { types = types })
-retyped_grows m types k h = record {
-  types = λ i x e. elim h [ inl same ↦ rw same e | inr more ↦ rw more (slice_get-kept m.types (k ∷ []) i x e) ];
+retyped_grows : (m : Module) (types more : List LLVMTypeKind) → types ≡ m.types ++ more → Grows m (record m { types = types })
+retyped_grows m types more h = record {
+  types = λ i x e. rw h (slice_get-kept m.types more i x e);
   consts = λ i x e. e;
   structs = λ i x e. e;
   function_types = same_types function_type m.functions;
   inst_types = same_types inst_type m.insts;
-  type_count = elim h [ inl same ↦ omega (arith, ap length same) | inr more ↦ omega (arith, ap length more ∙ length-append m.types (k ∷ [])) ];
+  type_count = omega (arith, ap length h ∙ length-append m.types more);
   const_count = omega arith;
   function_count = omega arith;
   block_count = omega arith;
@@ -474,7 +474,8 @@ pub inst_built : (old new : Module) (b : LLVMBasicBlock) (i : LLVMInstRef) (name
     → b.0 < length old.blocks → i.0 ≡ length new.insts → ty.0 < length new.types → IsResultType (result_type old inst) old.types new.types ty → HasValues old inst → IsModule (with_code new (with_inst (code_of new) b i name ty inst))
 inst_built old new b i name ty inst kept s same there last typed result values =
     let more : Module = record old { types = new.types } in
-    let g = retyped_grows old new.types (made_kind (result_type old inst)) (made_only (result_type old inst) old.types new.types ty result) in
+    let added = types_more (result_type old inst) old.types new.types ty result in
+    let g = retyped_grows old new.types added.0 added.1 in
     let stands : StandsFor new.types (result_type more inst) ty =
     subst (λ (r : Option ResultType). StandsFor new.types r ty) (sym (result_kept old more g kept inst values)) (result_stands (result_type old inst) old.types new.types ty result) in
     inst_added new b i name ty inst s (omega (arith, ap (λ (m : Module). length m.blocks) same)) last typed

@@ -20,10 +20,13 @@ use Rattle.llvm_core.specs.declared.code.InstData.{InstData}
 use Rattle.llvm_core.specs.Module.{Module}
 use Rattle.llvm_core.specs.Code.{param_names}
 use Rattle.llvm_core.specs.Consts.{IsConstIn}
-use Rattle.llvm_core.specs.Parts.{IsTypeOver, IsValue, HasValues, IsResultOver, const_type, type_params, kind_params, param_types, value_type, result_type, given, row_fits, type_nth}
+use Rattle.llvm_core.specs.Parts.{IsTypeOver, IsValue, HasValues, IsResultOver, AreLanes, shape_at, laned_of, laned_at, bits_at, const_type, type_params, kind_params, param_types, value_type, result_type, given, row_fits, type_nth}
 use Rattle.kinds.specs.declared.rules.Gives.{Gives}
 use Rattle.kinds.specs.declared.rules.Gives.TheVariants as G
+use Rattle.kinds.specs.declared.fitting.Shape.TheVariants as S
+use Rattle.kinds.specs.Types.{one}
 use Rattle.kinds.specs.Table.{rule_of}
+use Rattle.kinds.proofs.HeldLaws.{bit_lanes}
 use Rattle.std.proofs.Common.{All, subst, zero, suc, ◌∷◌}
 use Rattle.std.specs.Prelude.{IfSome}
 use Rattle.std.proofs.lemmas.List.Elements.{All-head, All-tail}
@@ -103,21 +106,34 @@ there_within : (m : Module) (o : Option LLVMType) (r : ResultType) → ((t : LLV
 there_within m None r h e = cc
 there_within m (Some t) r h e = rw (← same_Some (R.There t) r e) (h t refl)
 
-given_within : (m : Module) (g : Gives) (w a b : Option LLVMType) (r : ResultType) → ((t : LLVMType) → w ≡ Some t → t.0 < length m.types) → ((t : LLVMType) → a ≡ Some t → t.0 < length m.types) → ((t : LLVMType) → b ≡ Some t → t.0 < length m.types) → given g w a b ≡ Some r → IsResultOver m.types r
-given_within m G.Nothing w a b r hw ha hb e = cc
-given_within m G.First w a b r hw ha hb e = there_within m a r ha e
-given_within m G.Second w a b r hw ha hb e = there_within m b r hb e
-given_within m G.Written w a b r hw ha hb e = there_within m w r hw e
-given_within m G.Bit w a b r hw ha hb e = rw (← same_Some R.Bit r e) tt
+-- as many bits as a type has lanes make a vector, where they are more than one
+pub lanes_within : (m : Module) (t : LLVMType) → IsModule m → AreLanes (laned_at m.types t).lanes
+lanes_within m t s = by (slice_get m.types t.0) refl
+  where
+    by : (o : Option LLVMTypeKind) → slice_get m.types t.0 ≡ o → AreLanes (option_map_or (laned_of m.types) o (one S.Void)).lanes
+    by None at = tt
+    by (Some (T.Vector kind count e)) at = bit_lanes count (shape_at m.types e) (s.types_fit t.0 (T.Vector kind count e) at)
+    by (Some k) at = tt
+
+bits_within : (m : Module) (o : Option LLVMType) (r : ResultType) → IsModule m → option_map (bits_at m.types) o ≡ Some r → IsResultOver m.types r
+bits_within m None r s e = cc
+bits_within m (Some t) r s e = rw (← same_Some (bits_at m.types t) r e) (lanes_within m t s)
+
+given_within : (m : Module) (g : Gives) (w a b : Option LLVMType) (r : ResultType) → IsModule m → ((t : LLVMType) → w ≡ Some t → t.0 < length m.types) → ((t : LLVMType) → a ≡ Some t → t.0 < length m.types) → ((t : LLVMType) → b ≡ Some t → t.0 < length m.types) → given m.types g w a b ≡ Some r → IsResultOver m.types r
+given_within m G.Nothing w a b r s hw ha hb e = cc
+given_within m G.First w a b r s hw ha hb e = there_within m a r ha e
+given_within m G.Second w a b r s hw ha hb e = there_within m b r hb e
+given_within m G.Written w a b r s hw ha hb e = there_within m w r hw e
+given_within m G.Bits w a b r s hw ha hb e = bits_within m a r s e
 
 -- the type of a result is there, where it is one of the module's
 pub result_within : (m : Module) (i : LLVMInst) (r : ResultType) → IsModule m → HasValues m i → result_type m i ≡ Some r → IsResultOver m.types r
 result_within m (I.Phi type entries) r s h e = rw (← same_Some (R.There type) r e) h.0
 result_within m (I.Row row) r s h e = by (row_fits m row) e
   where
-    by : (b : Bool) → (if b then given (rule_of row.op).gives row.written (type_nth m row.operands 0) (type_nth m row.operands 1) else None) ≡ Some r → IsResultOver m.types r
+    by : (b : Bool) → (if b then given m.types (rule_of row.op).gives row.written (type_nth m row.operands 0) (type_nth m row.operands 1) else None) ≡ Some r → IsResultOver m.types r
     by true e =
-        given_within m (rule_of row.op).gives row.written (type_nth m row.operands 0) (type_nth m row.operands 1) r (λ t at. subst (λ (o : Option LLVMType). IfSome o (λ (x : LLVMType). x.0 < length m.types)) at h.2)
+        given_within m (rule_of row.op).gives row.written (type_nth m row.operands 0) (type_nth m row.operands 1) r s (λ t at. subst (λ (o : Option LLVMType). IfSome o (λ (x : LLVMType). x.0 < length m.types)) at h.2)
         (λ t at. type_nth_within m row.operands 0 t s h.0 at) (λ t at. type_nth_within m row.operands 1 t s h.0 at) e
     by false e = cc
 

@@ -25,7 +25,7 @@ pub use Rattle.kinds.specs.Structs.{StructBody, Struct}
 use Rattle.kinds.specs.declared.fill.Fill.{Fill}
 use Rattle.kinds.specs.declared.fill.Fill.TheVariants as F
 use Rattle.kinds.specs.Fill.{is_own_fill}
-use Rattle.kinds.specs.Types.{shape, takes_of}
+use Rattle.kinds.specs.Types.{in_lanes, shape, takes_of}
 use Rattle.kinds.specs.Held.{width_in}
 use Rattle.llvm_core.specs.declared.structs.StructFields.{StructFields}
 use Rattle.llvm_core.specs.declared.structs.StructData.{StructData}
@@ -231,7 +231,7 @@ instruction_of t (I.Row r) = Applied (row_of t r)
 -- the tree of a result's type
 abbrev pub tree_of_result : List TypeTree → ResultType → TypeTree
 tree_of_result ts (R.There t) = type_at ts t
-tree_of_result ts R.Bit = IntType 1
+tree_of_result ts (R.Bits lanes) = in_lanes lanes (IntType 1)
 
 -- the tree of the type of an instruction's result
 abbrev pub result_tree : Module → LLVMInst → TypeTree

@@ -1,5 +1,5 @@
 -- What the parts of a type, a constant and an instruction have to be.
-use Rattle.std.specs.Prelude.{◌≡◌, ◌<◌, ◌≤◌, ◌^◌, ℕ, Bool, true, false, if◌then◌else◌, IsTrue, List, [], map, length, slice_get, Option, Some, None, IfSome, All}
+use Rattle.std.specs.Prelude.{◌≡◌, ◌<◌, ◌≤◌, ◌^◌, ◌⊎◌, ◌++◌, ◌∷◌, ℕ, Bool, true, false, if◌then◌else◌, IsTrue, List, [], map, length, slice_get, Option, Some, None, IfSome, All}
 use Rattle.std.specs.Option.{option_map, option_map_or, option_and_then}
 use Rattle.llvm_core.specs.declared.numbers.LLVMType.{LLVMType}
 use Rattle.llvm_core.specs.declared.numbers.LLVMBasicBlock.{LLVMBasicBlock}
@@ -20,10 +20,14 @@ use Rattle.kinds.specs.declared.rules.Gives.{Gives}
 use Rattle.kinds.specs.declared.rules.Gives.TheVariants as G
 use Rattle.kinds.specs.declared.fitting.Shape.{Shape}
 use Rattle.kinds.specs.declared.fitting.Shape.TheVariants as S
+use Rattle.kinds.specs.declared.fitting.Laned.{Laned}
 use Rattle.kinds.specs.declared.fitting.TypeView.{TypeView}
+use Rattle.kinds.specs.declared.types.Lanes.{Lanes}
+use Rattle.kinds.specs.declared.types.Lanes.TheVariants as N
+use Rattle.kinds.specs.Types.{one, many}
 use Rattle.kinds.specs.Table.{rule_of}
 use Rattle.kinds.specs.Fitting as F
-use Rattle.kinds.specs.Fitting.{fits, view_shape, view_same}
+use Rattle.kinds.specs.Fitting.{fits, view_laned, view_same}
 use Rattle.llvm_core.specs.declared.code.FunctionData.{FunctionData}
 use Rattle.llvm_core.specs.declared.code.InstData.{InstData}
 use Rattle.support.specs.Interned.{Interned}
@@ -61,6 +65,14 @@ shape_of (T.Function result params variadic) = S.Function
 -- that of a type that is there
 abbrev pub shape_at : List LLVMTypeKind → LLVMType → Shape
 shape_at types t = option_map_or shape_of (slice_get types t.0) S.Void
+
+-- the lanes of a type: those of a vector are its elements, any other type is one
+abbrev pub laned_of : List LLVMTypeKind → LLVMTypeKind → Laned
+laned_of types (T.Vector kind count t) = many kind count (shape_at types t)
+laned_of types k = one (shape_of k)
+
+abbrev pub laned_at : List LLVMTypeKind → LLVMType → Laned
+laned_at types t = option_map_or (laned_of types) (slice_get types t.0) (one S.Void)
 
 -- an integer that a module keeps at a width: below 2^width, and below 2^128 at a greater width too
 abbrev pub IsIntAt : (width value : ℕ) → Type 0
@@ -151,7 +163,7 @@ HasValues m (I.Row r) = HasParts m r
 -- ---- the type of a result
 
 abbrev pub view : List LLVMTypeKind → LLVMType → TypeView
-view types t = record { number = t.0; shape = shape_at types t }
+view types t = record { number = t.0; laned = laned_at types t }
 
 -- the type of the value at a place
 abbrev pub type_nth : Module → List LLVMValue → ℕ → Option LLVMType
@@ -160,43 +172,63 @@ type_nth m vs i = option_and_then (value_type m) (slice_get vs i)
 abbrev pub view_nth : Module → List LLVMValue → ℕ → Option TypeView
 view_nth m vs i = option_map (view m.types) (type_nth m vs i)
 
+-- bits in as many lanes as a type has
+abbrev pub bits_at : List LLVMTypeKind → LLVMType → ResultType
+bits_at types t = R.Bits (laned_at types t).lanes
+
 -- the type that is given, a line for each word
-abbrev pub given : Gives → (written first second : Option LLVMType) → Option ResultType
-given G.Nothing w a b = None
-given G.First w a b = option_map R.There a
-given G.Second w a b = option_map R.There b
-given G.Written w a b = option_map R.There w
-given G.Bit w a b = Some R.Bit
+abbrev pub given : List LLVMTypeKind → Gives → (written first second : Option LLVMType) → Option ResultType
+given types G.Nothing w a b = None
+given types G.First w a b = option_map R.There a
+given types G.Second w a b = option_map R.There b
+given types G.Written w a b = option_map R.There w
+given types G.Bits w a b = option_map (bits_at types) a
 
 -- the operands of a row fit it, as far as that can be told without its function
 abbrev pub row_fits : Module → Row → Bool
 row_fits m r =
-    fits view_shape view_same (rule_of r.op) (length r.operands) (option_map (view m.types) r.written) (view_nth m r.operands 0) (view_nth m r.operands 1) (view_nth m r.operands 2)
+    fits view_laned view_same (rule_of r.op) (length r.operands) (option_map (view m.types) r.written) (view_nth m r.operands 0) (view_nth m r.operands 1) (view_nth m r.operands 2)
 
 abbrev pub row_result : Module → Row → Option ResultType
-row_result m r = if row_fits m r then given (rule_of r.op).gives r.written (type_nth m r.operands 0) (type_nth m r.operands 1) else None
+row_result m r = if row_fits m r then given m.types (rule_of r.op).gives r.written (type_nth m r.operands 0) (type_nth m r.operands 1) else None
 
 -- the type of the result, where the operands fit and it is not void
 abbrev pub result_type : Module → LLVMInst → Option ResultType
 result_type m (I.Phi type entries) = Some (R.There type)
 result_type m (I.Row r) = row_result m r
 
--- the kind of a result's type that may be new: i1 or void
-abbrev pub made_kind : Option ResultType → LLVMTypeKind
-made_kind (Some R.Bit) = T.Int 1
-made_kind (Some (R.There t)) = T.Void
-made_kind None = T.Void
+-- so many bits make a vector, or one bit is none
+abbrev pub AreLanes : Lanes → Type 0
+AreLanes N.One = Unit {0}
+AreLanes (N.Many kind count) = F.is_vector_of count (S.Int 1) ≡ true
 
 -- the result's type is there, where it is one of the module's
 abbrev pub IsResultOver : List LLVMTypeKind → ResultType → Type 0
 IsResultOver types (R.There t) = t.0 < length types
-IsResultOver types R.Bit = Unit {0}
+IsResultOver types (R.Bits lanes) = AreLanes lanes
 
--- ty is that type, or the number of i1 or void, which may be new
+-- ty is the number of i1 in so many lanes, which may be new, and so may i1 be
+abbrev pub AreBits : Lanes → (old new : List LLVMTypeKind) → LLVMType → Type 0
+AreBits N.One old new ty = Interned old new (T.Int 1) ty.0
+AreBits (N.Many kind count) old new ty =
+    (between : List LLVMTypeKind) × (bit : LLVMType) × Interned old between (T.Int 1) bit.0 × Interned between new (T.Vector kind count bit) ty.0
+
+-- ty is that type, or the number of bits or of void, which may be new
 abbrev pub IsResultType : Option ResultType → List LLVMTypeKind → List LLVMTypeKind → LLVMType → Type 0
 IsResultType (Some (R.There t)) old new ty = (ty ≡ t) × (new ≡ old)
-IsResultType (Some R.Bit) old new ty = Interned old new (T.Int 1) ty.0
+IsResultType (Some (R.Bits lanes)) old new ty = AreBits lanes old new ty
 IsResultType None old new ty = Interned old new T.Void ty.0
+
+-- the types are the old ones, or these with that kind last
+abbrev pub MayAdd : LLVMTypeKind → (old new : List LLVMTypeKind) → Type 0
+MayAdd k old new = (new ≡ old) ⊎ (new ≡ old ++ k ∷ [])
+
+-- the types are the old ones with what a result's type makes new, or with some of that
+abbrev pub MayMake : Option ResultType → (old new : List LLVMTypeKind) → Type 0
+MayMake (Some (R.There t)) old new = new ≡ old
+MayMake (Some (R.Bits N.One)) old new = MayAdd (T.Int 1) old new
+MayMake (Some (R.Bits (N.Many kind count))) old new = (between : List LLVMTypeKind) × (bit : LLVMType) × MayAdd (T.Int 1) old between × MayAdd (T.Vector kind count bit) between new
+MayMake None old new = MayAdd T.Void old new
 
 -- ---- operands by place
 

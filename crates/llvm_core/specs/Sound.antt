@@ -1,5 +1,7 @@
 -- What is true of every module that calls have built.
 use Rattle.std.specs.Prelude.{◌≡◌, ◌<◌, ℕ, true, List, length, slice_get, Option, None, Some, All, IfSome}
+use Rattle.kinds.specs.declared.types.Lanes.{Lanes}
+use Rattle.kinds.specs.declared.types.Lanes.TheVariants as N
 use Rattle.kinds.specs.Fitting.{is_field}
 use Rattle.llvm_core.specs.declared.types.LLVMTypeKind.{LLVMTypeKind}
 use Rattle.llvm_core.specs.declared.types.LLVMTypeKind.TheVariants as T
@@ -40,10 +42,15 @@ pub record IsBlockIn (m : Module) (x : BlockData) : Type 0 where
   pub function : x.function.0 < length m.functions
   pub insts : All (λ (i : LLVMInstRef). i.0 < length m.insts) x.insts
 
+-- the number is that of i1 in so many lanes
+abbrev pub IsOfBits : List LLVMTypeKind → Lanes → LLVMType → Type 0
+IsOfBits types N.One ty = slice_get types ty.0 ≡ Some (T.Int 1)
+IsOfBits types (N.Many kind count) ty = (bit : LLVMType) × (slice_get types ty.0 ≡ Some (T.Vector kind count bit)) × (slice_get types bit.0 ≡ Some (T.Int 1))
+
 -- the number stands for the type of a result
 abbrev pub StandsFor : List LLVMTypeKind → Option ResultType → LLVMType → Type 0
 StandsFor types (Some (R.There t)) ty = ty ≡ t
-StandsFor types (Some R.Bit) ty = slice_get types ty.0 ≡ Some (T.Int 1)
+StandsFor types (Some (R.Bits lanes)) ty = IsOfBits types lanes ty
 StandsFor types None ty = slice_get types ty.0 ≡ Some T.Void
 
 -- an instruction of a block that is there, with a type that is there and is that of its operands, and operands that are there

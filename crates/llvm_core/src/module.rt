@@ -1,27 +1,25 @@
 //! A module in memory: the calls that build it and those that read it.
 
-ghost use Rattle.std.specs.Prelude.{◌≡◌, ◌<◌, ◌⊎◌, ◌++◌, ◌∷◌, [], IfOk, IfSome, IfNone, OnErr, OnOk, None, Some, All, IsTrue, length, map, slice_get};
+ghost use Rattle.std.specs.Prelude.{◌≡◌, ◌<◌, ◌++◌, ◌∷◌, [], IfOk, IfSome, IfNone, OnErr, OnOk, None, Some, All, IsTrue, length, map, slice_get};
 ghost use Rattle.std.specs.Option.{option_map};
 ghost use Rattle.llvm_core.specs.declared.code.LLVMValue.TheVariants as values;
-ghost use Rattle.llvm_core.specs.declared.types.ResultType.TheVariants as results;
 ghost use Rattle.support.specs.Interned.{Interned};
 ghost use Rattle.llvm_core.specs.Module.{Module};
 ghost use Rattle.llvm_core.specs.Code.{code_of, with_code, with_function, with_param_name, with_block, with_inst, with_operand, with_entry, with_changed_inst, param_names};
-ghost use Rattle.llvm_core.specs.Parts.{IsTypeOver, HasFitParts, IsFunctionType, IsValue, IsBlock, HasParts, HasValues, IsResultType, IsResultOver, TakesOperand, IsPhi, made_kind, const_type, is_function, given, kind_params, type_params, value_type, result_type, row_fits, row_result, shape_of, type_nth, view, view_nth};
+ghost use Rattle.llvm_core.specs.Parts.{IsTypeOver, HasFitParts, IsFunctionType, IsValue, IsBlock, HasValues, IsResultType, MayMake, TakesOperand, IsPhi, const_type, is_function, kind_params, type_params, value_type, result_type, shape_of};
 ghost use Rattle.llvm_core.specs.Consts.{IsConstIn, IsMadeBelow, struct_named};
 ghost use Rattle.llvm_core.specs.declared.structs.StructData.{StructData};
 ghost use Rattle.llvm_core.specs.Sound.{AreFieldsIn, IsModule};
 ghost use Rattle.llvm_core.specs.Data as lists;
 ghost use Rattle.llvm_core.specs.Data.{trees_of, type_at, result_tree, operand_of, instruction_of, data_of, fields_of, AreApart, AllBlocks, AllPlaced};
 
-use crate::code::{LLVMInst, LLVMValue, PhiEntry, Row};
+use crate::code::{LLVMInst, LLVMValue, PhiEntry};
 use crate::code_store::CodeStore;
 use crate::consts::LLVMConstKind;
 use crate::numbers::{LLVMBasicBlock, LLVMConst, LLVMFunction, LLVMInstRef, LLVMStruct, LLVMType};
 use crate::structs::{StructFields, StructStore};
-use crate::types::{LLVMTypeKind, ResultType};
-use kinds::fitting::{Shape, TypeView, fits};
-use kinds::rules::Gives;
+use crate::types::LLVMTypeKind;
+use kinds::fitting::Shape;
 use std::alloc::{AllocError, Global};
 use std::marker::Model;
 use support::interner::Interner;
@@ -34,6 +32,7 @@ mod holding;
 mod inserting;
 mod naming;
 mod splats;
+mod typing;
 
 /// A module in memory.
 #[derive(Drop)]
@@ -194,7 +193,7 @@ impl LLVMModule {
         ensures number { IfOk result (λ i. i.0 ≡ length self.old.insts) }
         ensures ok { IfOk result (λ i. (ty : _) × IsResultType (result_type self.old inst) self.old.types self.new.types ty × (self.new ≡ with_code (record self.old { types = self.new.types }) (with_inst (code_of self.old) block i name.now ty inst))) }
         ensures rest { OnErr result (self.new ≡ record self.old { types = self.new.types }) }
-        ensures err { OnErr result ((self.new.types ≡ self.old.types) ⊎ (self.new.types ≡ self.old.types ++ made_kind (result_type self.old inst) ∷ [])) }
+        ensures err { OnErr result (MayMake (result_type self.old inst) self.old.types self.new.types) }
         ensures data { IfOk result (λ i. data_of self.new ≡ lists.with_instruction (data_of self.old) block.0 (record { number = i.0; name = name.now; type = result_tree self.old inst; instruction = instruction_of (trees_of self.old) inst })) }
         ensures data_err { OnErr result (data_of self.new ≡ data_of self.old) }
         ensures fresh { IfOk result (λ i. AllPlaced (λ x. x.number < i.0) (data_of self.old)) }
@@ -390,24 +389,6 @@ impl LLVMModule {
         self.code.inst(i).name.as_str()
     }
 
-    /// The number of the type of an instruction's result.
-    fn result_number(&mut self, inst: &LLVMInst) -> Result<LLVMType, AllocError>
-        requires { HasValues self.old inst.now }
-        ensures ty { IfOk result (λ t. IsResultType (result_type self.old inst.now) self.old.types self.new.types t) }
-        ensures within { IfOk result (λ t. t.0 < length self.new.types) }
-        ensures rest { self.new ≡ record self.old { types = self.new.types } }
-        ensures err { OnErr result (self.new ≡ self.old) }
-        ensures data { data_of self.new ≡ data_of self.old }
-        ensures kept { IsModule self.old }
-        ensures sound { IsModule self.new }
-    {
-        match self.result_type(inst) {
-            Some(ResultType::There(ty)) => Ok(ty),
-            Some(ResultType::Bit) => self.type_get(LLVMTypeKind::Int(1)),
-            None => self.type_get(LLVMTypeKind::Void),
-        }
-    }
-
     pub(crate) fn allocator(&self) -> Global {
         self.alloc
     }
@@ -459,83 +440,6 @@ impl LLVMModule {
         self.code.inst(i).block
     }
 
-    /// The type of an instruction's result, where its operands fit and it is not void.
-    pub fn result_type(&self, inst: &LLVMInst) -> Option<ResultType>
-        requires { HasValues self.now inst.now }
-        ensures within { IfSome result (IsResultOver self.now.types) }
-        ensures ty { result ≡ result_type self.now inst.now }
-        ensures sound { IsModule self.now }
-    {
-        // This tells the proof of the invariant.
-        let _ = &self.types;
-        match inst {
-            LLVMInst::Phi(ty, _) => Some(ResultType::There(*ty)),
-            LLVMInst::Row(row) => self.row_result(row),
-        }
-    }
-
-    /// Whether the operands of a row fit it, as far as that can be told without its function.
-    pub(crate) fn row_fits(&self, row: &Row) -> bool
-        requires { HasParts self.now row.now }
-        ensures { result ≡ row_fits self.now row.now }
-    {
-        let operands = row.operands.as_slice();
-        let first = self.view_nth(operands, 0);
-        let second = self.view_nth(operands, 1);
-        let third = self.view_nth(operands, 2);
-        let written = self.view_some(row.written);
-        fits(row.op.rule(), operands.len(), written, first, second, third)
-    }
-
-    /// The type of a row's result, where its operands fit and it is not void.
-    fn row_result(&self, row: &Row) -> Option<ResultType>
-        requires { HasParts self.now row.now }
-        ensures { result ≡ row_result self.now row.now }
-    {
-        if !self.row_fits(row) {
-            return None;
-        }
-        let operands = row.operands.as_slice();
-        let first = self.type_nth(operands, 0);
-        let second = self.type_nth(operands, 1);
-        given(row.op.rule().gives, row.written, first, second)
-    }
-
-    /// The type of the value at a place, as rules see it.
-    fn view_nth(&self, values: &[LLVMValue], place: usize) -> Option<TypeView>
-        requires { All (IsValue self.now) values.now }
-        ensures { result ≡ view_nth self.now values.now place }
-    {
-        self.view_some(self.type_nth(values, place))
-    }
-
-    /// The type of the value at a place.
-    fn type_nth(&self, values: &[LLVMValue], place: usize) -> Option<LLVMType>
-        requires { All (IsValue self.now) values.now }
-        ensures ty { result ≡ type_nth self.now values.now place }
-        ensures within { IfSome result (λ t. t.0 < length self.now.types) }
-    {
-        if place < values.len() {
-            Some(self.type_of(values[place]))
-        } else {
-            None
-        }
-    }
-
-    /// A type as rules see it.
-    fn view_some(&self, ty: Option<LLVMType>) -> Option<TypeView>
-        requires { IfSome ty (λ t. t.0 < length self.now.types) }
-        ensures { result ≡ option_map (view self.now.types) ty }
-    {
-        match ty {
-            Some(ty) => Some(TypeView {
-                number: ty.0,
-                shape: shape_of(self.type_kind(ty)),
-            }),
-            None => None,
-        }
-    }
-
     fn param_type(&self, f: LLVMFunction, place: u32) -> LLVMType
         requires { place < length (param_names self.now.functions f) }
         ensures ty { value_type self.now (values.Param f place) ≡ Some result }
@@ -573,33 +477,6 @@ pub fn shape_of(kind: &LLVMTypeKind) -> Shape
         LLVMTypeKind::Literal { .. } => Shape::Made,
         LLVMTypeKind::Named(_) => Shape::Named,
         LLVMTypeKind::Function { .. } => Shape::Function,
-    }
-}
-
-fn there(ty: Option<LLVMType>) -> Option<ResultType>
-    ensures { result ≡ option_map results.There ty }
-{
-    match ty {
-        Some(ty) => Some(ResultType::There(ty)),
-        None => None,
-    }
-}
-
-/// The type of a result: a line for each word.
-fn given(
-    gives: Gives,
-    written: Option<LLVMType>,
-    first: Option<LLVMType>,
-    second: Option<LLVMType>,
-) -> Option<ResultType>
-    ensures { result ≡ given gives written first second }
-{
-    match gives {
-        Gives::Nothing => None,
-        Gives::First => there(first),
-        Gives::Second => there(second),
-        Gives::Written => there(written),
-        Gives::Bit => Some(ResultType::Bit),
     }
 }
 

@@ -1,7 +1,7 @@
 //! Types, as a module keeps them.
 
 use crate::numbers::LLVMType;
-use kinds::types::{Floating, OtherType, StructLayout, VectorTypeKind};
+use kinds::types::{Floating, Lanes, OtherType, StructLayout, VectorTypeKind};
 use support::items::Items;
 use support::text::Text;
 
@@ -10,8 +10,8 @@ use support::text::Text;
 pub enum ResultType {
     /// A type of the module.
     There(LLVMType),
-    /// `i1`, which the module may not have yet.
-    Bit,
+    /// `i1` in so many lanes, which the module may not have yet.
+    Bits(Lanes),
 }
 
 /// A type, whose parts are numbers of earlier types (Language Reference, Type System).

@@ -1,26 +1,20 @@
 -- Types under other names of structs: equal ones stay so, and what fits a row fits it still.
 use Rattle.std.proofs.Common.{arith, ◌≡◌, ℕ, Bool, true, false, ◌&&◌, refl, ap, List, map, slice_get, length, Option, Some, None, if◌then◌else◌, nat_eq}
-use Rattle.std.specs.Prelude.{unwrap_or}
+use Rattle.std.specs.Prelude.{IfSome, unwrap_or}
 use Rattle.std.specs.Option.{option_map}
 use Rattle.std.specs.Str.{bytes_eq}
 use Rattle.std.proofs.lemmas.Slice.Eq.{bytes_eq-Decides}
 use Rattle.kinds.specs.declared.op.Op.{Op}
-use Rattle.kinds.specs.declared.fitting.Shape.{Shape}
-use Rattle.kinds.specs.declared.rules.Fit.{Fit}
-use Rattle.kinds.specs.declared.rules.Fit.TheVariants as F
-use Rattle.kinds.specs.declared.rules.Takes.{Takes}
-use Rattle.kinds.specs.declared.rules.Takes.TheVariants as T
 use Rattle.kinds.specs.declared.rules.Gives.{Gives}
 use Rattle.kinds.specs.declared.rules.Gives.TheVariants as G
-use Rattle.kinds.specs.declared.rules.Rule.{Rule}
-use Rattle.kinds.specs.Types.{TypeTree, VoidType, ArrayType, VectorType, StructType, NamedType, FunctionType, TypeTrees, NoTypes, ThenType, shape, same_kind, same_layout, same_tree, same_trees}
+use Rattle.kinds.specs.Types.{TypeTree, VoidType, ArrayType, VectorType, StructType, NamedType, FunctionType, TypeTrees, NoTypes, ThenType, laned, same_kind, same_layout, same_tree, same_trees}
 use Rattle.kinds.specs.Structs.{renamed, renamed_all}
 use Rattle.std.proofs.lemmas.List.{length-map}
 use Rattle.std.proofs.lemmas.Option.{slice_get-map}
 use Rattle.kinds.specs.Table.{rule_of}
-use Rattle.kinds.specs.Fitting.{is_value, is_number, is_bit, is_same, is_above, is_below, fit_one, fit, takes_fit, is_no_type, is_value_type, is_written, fits}
 use Rattle.kinds.specs.Typing.{fits_trees, given, typed}
-use Rattle.kinds.proofs.RenamedLaws.{renamed_shape}
+use Rattle.kinds.proofs.FittingLaws.{fits_kept}
+use Rattle.kinds.proofs.RenamedLaws.{renamed_laned, renamed_bits}
 
 -- ---- equal types
 
@@ -50,57 +44,9 @@ module _ (to : List ℕ → List ℕ) (apart : (a b : List ℕ) → to a ≡ to 
 
 -- ---- what fits a row
 
--- types that g changes, of the same shape and told apart as before
-module _ {X : Type 0} (shape : X → Shape) (same : X → X → Bool) (g : X → X) (shaped : (x : X) → shape (g x) ≡ shape x) (told : (x y : X) → same (g x) (g y) ≡ same x y) where
-  same_mapped : (a : Option X) (b : X) → is_same shape same (option_map g a) (g b) ≡ is_same shape same a b
-  same_mapped None b = refl
-  same_mapped (Some a) b = told a b
-
-  above_mapped : (w : Option X) (b : X) → is_above shape same (option_map g w) (g b) ≡ is_above shape same w b
-  above_mapped None b = refl
-  above_mapped (Some w) b = rw (shaped w, shaped b) refl
-
-  below_mapped : (w : Option X) (b : X) → is_below shape same (option_map g w) (g b) ≡ is_below shape same w b
-  below_mapped None b = refl
-  below_mapped (Some w) b = rw (shaped w, shaped b) refl
-
-  one_mapped : (by : Fit) (w a b : Option X) (own : X) → fit_one shape same by (option_map g w) (option_map g a) (option_map g b) (g own) ≡ fit_one shape same by w a b own
-  one_mapped F.Any w a b own = ap is_value (shaped own)
-  one_mapped F.Number w a b own = ap is_number (shaped own)
-  one_mapped F.Bit w a b own = ap is_bit (shaped own)
-  one_mapped F.First w a b own = same_mapped a own
-  one_mapped F.Second w a b own = same_mapped b own
-  one_mapped F.Wider w a b own = above_mapped w own
-  one_mapped F.Narrower w a b own = below_mapped w own
-
-  fit_mapped : (by : Fit) (w a b own : Option X) → fit shape same by (option_map g w) (option_map g a) (option_map g b) (option_map g own) ≡ fit shape same by w a b own
-  fit_mapped by w a b None = refl
-  fit_mapped by w a b (Some own) = one_mapped by w a b own
-
-  takes_mapped : (takes : Takes) (n : ℕ) (w a b c : Option X) → takes_fit shape same takes n (option_map g w) (option_map g a) (option_map g b) (option_map g c) ≡ takes_fit shape same takes n w a b c
-  takes_mapped T.Nothing n w a b c = refl
-  takes_mapped (T.One x) n w a b c = rw (fit_mapped x w a b a) refl
-  takes_mapped (T.Two x y) n w a b c = rw (fit_mapped x w a b a, fit_mapped y w a b b) refl
-  takes_mapped (T.Three x y z) n w a b c = rw (fit_mapped x w a b a, fit_mapped y w a b b, fit_mapped z w a b c) refl
-  takes_mapped T.Return n w a b c = refl
-
-  none_mapped : (w : Option X) → is_no_type shape same (option_map g w) ≡ is_no_type shape same w
-  none_mapped None = refl
-  none_mapped (Some w) = refl
-
-  value_mapped : (w : Option X) → is_value_type shape same (option_map g w) ≡ is_value_type shape same w
-  value_mapped None = refl
-  value_mapped (Some w) = ap is_value (shaped w)
-
-  written_mapped : (gives : Gives) (w : Option X) → is_written shape same gives (option_map g w) ≡ is_written shape same gives w
-  written_mapped G.Nothing w = none_mapped w
-  written_mapped G.First w = none_mapped w
-  written_mapped G.Second w = none_mapped w
-  written_mapped G.Written w = value_mapped w
-  written_mapped G.Bit w = none_mapped w
-
-  pub fits_mapped : (rule : Rule) (n : ℕ) (w a b c : Option X) → fits shape same rule n (option_map g w) (option_map g a) (option_map g b) (option_map g c) ≡ fits shape same rule n w a b c
-  fits_mapped rule n w a b c = rw (written_mapped rule.gives w, takes_mapped rule.takes n w a b c) refl
+any_some : (o : Option TypeTree) → IfSome o (λ (t : TypeTree). Unit {0})
+any_some None = tt
+any_some (Some t) = tt
 
 module _ (to : List ℕ → List ℕ) where
   given_renamed : (gives : Gives) (w a b : Option TypeTree) → given gives (option_map (renamed to) w) (option_map (renamed to) a) (option_map (renamed to) b) ≡ option_map (renamed to) (given gives w a b)
@@ -108,7 +54,8 @@ module _ (to : List ℕ → List ℕ) where
   given_renamed G.First w a b = refl
   given_renamed G.Second w a b = refl
   given_renamed G.Written w a b = refl
-  given_renamed G.Bit w a b = refl
+  given_renamed G.Bits w None b = refl
+  given_renamed G.Bits w (Some a) b = ap Some (renamed_bits to a)
 
   if_renamed : (v : Bool) (o : Option TypeTree) → (if v then option_map (renamed to) o else None) ≡ option_map (renamed to) (if v then o else None)
   if_renamed true o = refl
@@ -122,7 +69,8 @@ module _ (to : List ℕ → List ℕ) (apart : (a b : List ℕ) → to a ≡ to 
   pub fits_renamed : (op : Op) (w : Option TypeTree) (ts : List TypeTree) → fits_trees op (option_map (renamed to) w) (map (renamed to) ts) ≡ fits_trees op w ts
   fits_renamed op w ts =
       rw (length-map ts (renamed to), slice_get-map (renamed to) ts 0, slice_get-map (renamed to) ts 1, slice_get-map (renamed to) ts 2)
-      (fits_mapped shape same_tree (renamed to) (renamed_shape to) (same_renamed to apart) (rule_of op) (length ts) w (slice_get ts 0) (slice_get ts 1) (slice_get ts 2))
+      (fits_kept laned same_tree laned same_tree (renamed to) (λ (t : TypeTree). Unit {0}) (λ t g. renamed_laned to t) (λ t u g h. same_renamed to apart t u) (rule_of op) (length ts) w (slice_get ts 0) (slice_get ts 1) (slice_get ts 2)
+      (any_some w) (any_some (slice_get ts 0)) (any_some (slice_get ts 1)) (any_some (slice_get ts 2)))
 
   pub typed_renamed : (op : Op) (w : Option TypeTree) (ts : List TypeTree) → typed op (option_map (renamed to) w) (map (renamed to) ts) ≡ option_map (renamed to) (typed op w ts)
   typed_renamed op w ts =

@@ -7,12 +7,14 @@ use Rattle.support.specs.Interned.{IsDistinctList}
 use Rattle.support.proofs.OptionLaws.{part_of}
 use Rattle.kinds.specs.declared.fitting.Shape.{Shape}
 use Rattle.kinds.specs.declared.fitting.Shape.TheVariants as S
+use Rattle.kinds.specs.declared.fitting.Laned.{Laned}
 use Rattle.kinds.specs.declared.fitting.TypeView.{TypeView}
+use Rattle.kinds.specs.Types.{one, many}
 use Rattle.kinds.specs.Fitting as F
 use Rattle.llvm_core.specs.declared.numbers.LLVMType.{LLVMType}
 use Rattle.llvm_core.specs.declared.types.LLVMTypeKind.{LLVMTypeKind}
 use Rattle.llvm_core.specs.declared.types.LLVMTypeKind.TheVariants as T
-use Rattle.llvm_core.specs.Parts.{IsTypeOver, HasFitParts, kind_params, shape_of, shape_at, type_params, view}
+use Rattle.llvm_core.specs.Parts.{IsTypeOver, HasFitParts, kind_params, shape_of, shape_at, laned_of, laned_at, type_params, view}
 use Rattle.renamed_source.specs.Names.{renamed_kind}
 
 -- ---- lists of which each item is changed
@@ -68,8 +70,17 @@ module _ (to : List ℕ → List ℕ) where
   renamed_shapes types = fun_ext (λ (t : LLVMType).
       ap (λ (o : Option LLVMTypeKind). option_map_or shape_of o S.Void) (slice_get-map (renamed_kind to) types t.0) ∙ mapped_or (renamed_kind to) shape_of shape_of kind_shape (slice_get types t.0) S.Void)
 
+  kind_laned : (types : List LLVMTypeKind) (k : LLVMTypeKind) → laned_of (map (renamed_kind to) types) (renamed_kind to k) ≡ laned_of types k
+  kind_laned types (T.Vector kind count t) = ap (λ (shapes : LLVMType → Shape). many kind count (shapes t)) (renamed_shapes types)
+  kind_laned types k = ap one (kind_shape k)
+
+  pub renamed_laneds : (types : List LLVMTypeKind) → laned_at (map (renamed_kind to) types) ≡ laned_at types
+  renamed_laneds types = fun_ext (λ (t : LLVMType).
+      ap (λ (o : Option LLVMTypeKind). option_map_or (laned_of (map (renamed_kind to) types)) o (one S.Void)) (slice_get-map (renamed_kind to) types t.0)
+      ∙ mapped_or (renamed_kind to) (laned_of (map (renamed_kind to) types)) (laned_of types) (kind_laned types) (slice_get types t.0) (one S.Void))
+
   pub renamed_views : (types : List LLVMTypeKind) → view (map (renamed_kind to) types) ≡ view types
-  renamed_views types = ap (λ (shapes : LLVMType → Shape). let f : LLVMType → TypeView = (λ t. record { number = t.0; shape = shapes t }) in f) (renamed_shapes types)
+  renamed_views types = ap (λ (laneds : LLVMType → Laned). let f : LLVMType → TypeView = (λ t. record { number = t.0; laned = laneds t }) in f) (renamed_laneds types)
 
   pub renamed_type_params : (types : List LLVMTypeKind) → type_params (map (renamed_kind to) types) ≡ type_params types
   renamed_type_params types = fun_ext (λ (t : LLVMType).

@@ -8,10 +8,15 @@ use Rattle.std.specs.Prelude.{IfSome}
 use Rattle.std.proofs.lemmas.List.{length-map}
 use Rattle.std.proofs.lemmas.List.Elements.{All-map, All-weaker}
 use Rattle.kinds.specs.declared.fitting.Shape.{Shape}
+use Rattle.kinds.specs.declared.fitting.Laned.{Laned}
 use Rattle.kinds.specs.declared.fitting.TypeView.{TypeView}
+use Rattle.kinds.specs.declared.rules.Gives.{Gives}
+use Rattle.kinds.specs.declared.rules.Gives.TheVariants as G
+use Rattle.kinds.specs.declared.types.Lanes.{Lanes}
+use Rattle.kinds.specs.declared.types.Lanes.TheVariants as B
 use Rattle.kinds.specs.Fill.{is_own_fill}
 use Rattle.kinds.specs.Fitting as F
-use Rattle.kinds.specs.Fitting.{fits, view_shape, view_same}
+use Rattle.kinds.specs.Fitting.{fits, view_laned, view_same}
 use Rattle.kinds.specs.Table.{rule_of}
 use Rattle.kinds.specs.declared.types.VectorTypeKind.TheVariants as N
 use Rattle.llvm_core.specs.declared.numbers.LLVMType.{LLVMType}
@@ -34,27 +39,27 @@ use Rattle.llvm_core.specs.declared.code.FunctionData.{FunctionData}
 use Rattle.llvm_core.specs.declared.code.InstData.{InstData}
 use Rattle.llvm_core.specs.Module.{Module}
 use Rattle.llvm_core.specs.Consts.{struct_named, AreElements, IsListOf, IsConstIn, is_byte_array, list_form}
-use Rattle.llvm_core.specs.Parts.{IsTypeOver, HasFitParts, IsFunctionType, is_kind, IsValue, IsEntry, HasValues, given, result_type, value_type, view}
-use Rattle.llvm_core.specs.Sound.{AreFieldsIn, IsStructIn, IsFunctionIn, IsInstIn, StandsFor, IsModule}
+use Rattle.llvm_core.specs.Parts.{type_nth, IsTypeOver, HasFitParts, IsFunctionType, is_kind, IsValue, IsEntry, HasValues, given, result_type, value_type, view}
+use Rattle.llvm_core.specs.Sound.{AreFieldsIn, IsStructIn, IsFunctionIn, IsInstIn, IsOfBits, StandsFor, IsModule}
 use Rattle.llvm_core.specs.Data.{AreApart}
 use Rattle.llvm_core.proofs.ApartLemmas.{apart}
 use Rattle.meaning.proofs.RenamedLaws.{find_map}
 use Rattle.renamed_source.proofs.FittingLaws.{names_apart}
 use Rattle.renamed_source.specs.Names.{renamed_kind, renamed_struct_data, renamed_store}
-use Rattle.renamed_source.proofs.KindLaws.{mapped_at, mapped_from, mapped_once, renamed_shape_of, renamed_shapes, renamed_views, renamed_type_params, kind_over, kind_fits, kind_injective}
+use Rattle.renamed_source.proofs.KindLaws.{mapped_at, mapped_from, mapped_once, renamed_shape_of, renamed_shapes, renamed_laneds, renamed_views, renamed_type_params, kind_over, kind_fits, kind_injective}
 
 -- ---- the type of a result, by what is told of types and of values
 
-module _ (views : LLVMType → TypeView) (types : LLVMValue → Option LLVMType) (r : Row) where
+module _ (kinds : List LLVMTypeKind) (views : LLVMType → TypeView) (types : LLVMValue → Option LLVMType) (r : Row) where
   abbrev operand_by : ℕ → Option LLVMType
   operand_by i = option_and_then types (slice_get r.operands i)
 
   abbrev fits_by : Bool
   fits_by =
-      fits view_shape view_same (rule_of r.op) (length r.operands) (option_map views r.written) (option_map views (operand_by 0)) (option_map views (operand_by 1)) (option_map views (operand_by 2))
+      fits view_laned view_same (rule_of r.op) (length r.operands) (option_map views r.written) (option_map views (operand_by 0)) (option_map views (operand_by 1)) (option_map views (operand_by 2))
 
   abbrev row_by : Option ResultType
-  row_by = if fits_by then given (rule_of r.op).gives r.written (operand_by 0) (operand_by 1) else None
+  row_by = if fits_by then given kinds (rule_of r.op).gives r.written (operand_by 0) (operand_by 1) else None
 
 module _ (to : List ℕ → List ℕ) (m : Module) where
   abbrev other : Module
@@ -69,11 +74,22 @@ module _ (to : List ℕ → List ℕ) (m : Module) where
   pub renamed_values : value_type other ≡ value_type m
   renamed_values = fun_ext value_same
 
+  -- a line for each word
+  given_same : (g : Gives) (w a b : Option LLVMType) → given other.types g w a b ≡ given m.types g w a b
+  given_same G.Nothing w a b = refl
+  given_same G.First w a b = refl
+  given_same G.Second w a b = refl
+  given_same G.Written w a b = refl
+  given_same G.Bits w None b = refl
+  given_same G.Bits w (Some t) b = ap (λ (laneds : LLVMType → Laned). Some (R.Bits (laneds t).lanes)) (renamed_laneds to m.types)
+
   -- the type of a result stays
   pub renamed_result_type : (i : LLVMInst) → result_type other i ≡ result_type m i
   renamed_result_type (I.Phi type entries) = refl
   renamed_result_type (I.Row r) =
-      ap (λ (views : LLVMType → TypeView). row_by views (value_type other) r) (renamed_views to m.types) ∙ ap (λ (types : LLVMValue → Option LLVMType). row_by (view m.types) types r) renamed_values
+      ap (λ (views : LLVMType → TypeView). row_by other.types views (value_type other) r) (renamed_views to m.types)
+      ∙ ap (λ (types : LLVMValue → Option LLVMType). row_by other.types (view m.types) types r) renamed_values
+      ∙ ap (λ (o : Option ResultType). if fits_by m.types (view m.types) (value_type m) r then o else None) (given_same (rule_of r.op).gives r.written (type_nth m r.operands 0) (type_nth m r.operands 1))
 
   -- ---- what is there
 
@@ -188,9 +204,13 @@ module _ (to : List ℕ → List ℕ) (m : Module) where
   values_there (I.Phi type entries) h = (same_count type.0 h.0, All-weaker (IsEntry m) (IsEntry other) entry_there entries h.1)
   values_there (I.Row r) h = (All-weaker (IsValue m) (IsValue other) value_there r.operands h.0, h.1, written_there r.written h.2)
 
+  bits_stand : (lanes : Lanes) (t : LLVMType) → IsOfBits m.types lanes t → IsOfBits other.types lanes t
+  bits_stand B.One t h = mapped_at (renamed_kind to) m.types t.0 (T.Int 1) h
+  bits_stand (B.Many kind n) t (bit, here, is) = (bit, mapped_at (renamed_kind to) m.types t.0 (T.Vector kind n bit) here, mapped_at (renamed_kind to) m.types bit.0 (T.Int 1) is)
+
   stands : (o : Option ResultType) (t : LLVMType) → StandsFor m.types o t → StandsFor other.types o t
   stands (Some (R.There u)) t h = h
-  stands (Some R.Bit) t h = mapped_at (renamed_kind to) m.types t.0 (T.Int 1) h
+  stands (Some (R.Bits lanes)) t h = bits_stand lanes t h
   stands None t h = mapped_at (renamed_kind to) m.types t.0 T.Void h
 
   inst_there : (x : InstData) → IsInstIn m x → IsInstIn other x

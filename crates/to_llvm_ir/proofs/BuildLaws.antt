@@ -21,7 +21,8 @@ use Rattle.llvm_core.specs.Parts.{IsResultType, result_type}
 use Rattle.llvm_core.specs.Data as L
 use Rattle.llvm_core.specs.Data.{IntType, Operand, Placed, Block, Function, ModuleData, trees_of, type_at, instruction_of, result_tree, data_of, with_function, with_instruction, with_instruction_in, AllBlocks}
 use Rattle.support.proofs.ListLaws.{length-with_change, slice_get-push}
-use Rattle.llvm_core.proofs.DataLemmas.{int_tree_of}
+use Rattle.llvm_core.proofs.DataLemmas.{bits_tree_of}
+use Rattle.llvm_core.proofs.SoundLemmas.{result_stands}
 use Rattle.to_llvm_ir.specs.Made.{function_with}
 use Rattle.to_llvm_ir.specs.Growth.{Grows, HasType}
 use Rattle.to_llvm_ir.specs.States.{Task, turn, filled_to, blocks_within}
@@ -52,7 +53,7 @@ built_there old new b i name inst h last = ap (λ (x : Module). slice_get x.inst
 
 result_typed : (old new : Module) (r : ResultType) (ty : LLVMType) → IsModule new → IsResultType (Some r) old.types new.types ty → type_at (trees_of new).types ty ≡ L.tree_of_result (trees_of old).types r
 result_typed old new (R.There t) ty s h = ap (λ (ks : List LLVMTypeKind). type_at (L.type_trees ks) ty) h.1 ∙ ap (type_at (trees_of old).types) h.0
-result_typed old new R.Bit ty s h = int_tree_of new ty 1 s h.here
+result_typed old new (R.Bits lanes) ty s h = bits_tree_of new ty lanes s (result_stands (Some (R.Bits lanes)) old.types new.types ty h)
 
 -- the new instruction has the type of its result
 pub built_type : (old new : Module) (b : LLVMBasicBlock) (i : LLVMInstRef) (name : List ℕ) (inst : LLVMInst) (r : ResultType) → IsBuilt old new b i name inst → i.0 ≡ length old.insts → result_type old inst ≡ Some r → IsModule new → HasType new (V.Inst i) (result_tree old inst)

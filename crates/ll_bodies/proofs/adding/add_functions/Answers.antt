@@ -5,7 +5,8 @@ use Rattle.llvm_core.proofs.DataLemmas.{within_at}
 use Rattle.ll_lines.specs.Views.{IsFunctionIn}
 use Rattle.ll_bodies.proofs.ErrLaws.{passed_on}
 use Rattle.ll_bodies.proofs.ViewLaws.{table_kept, function_kept, meant_kept}
-use Rattle.ll_bodies.proofs.FoldLaws.{added_none, added_more, added_refused, needed_kept}
+use Rattle.ll_bodies.proofs.FoldLaws.{added_none, added_more, added_refused}
+use Rattle.ll_bodies.proofs.BitsLaws.{needed_kept}
 use Rattle.ll_bodies.proofs.adding.add_functions.Goals as goal
 
 pub loop-function-preserved : goal.loop-function-preserved
@@ -17,13 +18,13 @@ loop-function-preserved c =
     let there = within_at xs (IsFunctionIn m (length c.args.shared.now.table.now)) c.requires.said at c.function-item.result here in
     let added = c.in_ok-add_function.ensures.ok in (
       added_more c.args.shared.now.bytes.now c.args.shared.now.table.now m xs c.requires.sound at c.loop-function.module c.function-item.result here c.requires.table there c.loop-function.invariant.0 c.add_function.new.module (at + 1) (omega arith) added,
-      needed_kept c.loop-function.module c.add_function.new.module _ _ added.keeps c.loop-function.invariant.1,
+      needed_kept c.loop-function.module c.add_function.new.module _ _ _ added.keeps.more added.keeps.types added.vectors c.loop-function.invariant.1,
     )
 
 pub loop-function-init : goal.loop-function-init
 loop-function-init c =
     let o = c.in_ok-types.ensures in
-    (added_none c.args.shared.now.bytes.now c.args.shared.now.table.now c.args.module.now c.args.functions.now c.needed_types.new.module o.grows o.sound, record { is_bit = o.bit; is_void = o.void })
+    (added_none c.args.shared.now.bytes.now c.args.shared.now.table.now c.args.module.now c.args.functions.now c.needed_types.new.module o.grows o.sound, o.needed)
 
 pub returns-in_err-add_function-clause-not_yet : goal.returns-in_err-add_function-clause-not_yet
 returns-in_err-add_function-clause-not_yet c = λ e.

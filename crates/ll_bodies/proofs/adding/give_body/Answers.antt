@@ -20,10 +20,11 @@ body_of-requires-clause-source c =
     record {
       sound = s;
       made = c.requires.made;
-      bit = int_tree_of m c.args.types.now.bit 1 s c.requires.bit;
-      bit_there = slice_get_within m.types c.args.types.now.bit.0 _ c.requires.bit;
-      void = void_tree_of m c.args.types.now.void s c.requires.void;
-      void_there = slice_get_within m.types c.args.types.now.void.0 _ c.requires.void;
+      bit = int_tree_of m c.args.types.now.bit 1 s c.requires.needed.is_bit;
+      bit_there = slice_get_within m.types c.args.types.now.bit.0 _ c.requires.needed.is_bit;
+      void = void_tree_of m c.args.types.now.void s c.requires.needed.is_void;
+      void_there = slice_get_within m.types c.args.types.now.void.0 _ c.requires.needed.is_void;
+      vectors = c.requires.needed.vectors;
     }
 
 pub add_body-requires-clause-function : goal.add_body-requires-clause-function

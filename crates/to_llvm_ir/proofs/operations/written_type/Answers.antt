@@ -14,7 +14,7 @@ none_written G.Nothing own h = refl
 none_written G.First own h = refl
 none_written G.Second own h = refl
 none_written G.Written own h = absurd (h refl)
-none_written G.Bit own h = refl
+none_written G.Bits own h = refl
 
 pub value_type-requires-clause-within : goal.value_type-requires-clause-within
 value_type-requires-clause-within c = result_there c.args.ctx.now c.args.op c.result_type.result c.in-Some.ty c.requires.typed c.result_type.ensures c.in-Some.is
