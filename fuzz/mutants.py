@@ -22,7 +22,7 @@ TOKEN = re.compile(rb"\s+|;[^\n]*|[@%]?[A-Za-z0-9$._-]+:?|[@%]?\"[^\"]*\":?|.", 
 NUMBERED = re.compile(rb"@[0-9]")  # a symbol of a number
 EXTRA = [b"\n", b"\xff", b'%"x y"', b'@"x y"', b'"x y":'] + (
     b"% @ 0 1 -1 i1 i32 i64 i65 void add ret nuw nsw , ( ) { } = : define %0 %a 7: true br label phi icmp eq udiv "
-    b"select freeze zext nneg trunc ptrtoint inttoptr addrspacecast to slt unreachable [ ] %loop %x %y ptr addrspace addrspace(1) "
+    b"select freeze load store volatile align 4 va_arg zext nneg trunc ptrtoint inttoptr addrspacecast to slt unreachable [ ] %loop %x %y ptr addrspace addrspace(1) "
     b"addrspace(16777215) addrspace(16777216) half bfloat float double fp128 i8388608 i8388609 1.0 null "
     b'x < > vscale type opaque %S < <4 x i32> [2 x i8] {} <{ }> source_filename @a.b @$ @-_ @7 @"7" @llvm.f %_.1 %"x" %"\\78" "x": "\\78": %"0" "0": %"" %"\\00" %"\xc3" '
     b'"\xc3\xa9\\"'

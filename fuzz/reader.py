@@ -21,6 +21,11 @@ def are_integers(of, to):
     return is_integer(of) and is_integer(to)
 
 
+def is_sized(type):
+    """Whether a value of it has a size."""
+    return type != Lacked("token")
+
+
 CASTS = {  # of one lane
     "trunc": lambda of, to: are_integers(of, to) and to.width < of.width,
     "sext": lambda of, to: are_integers(of, to) and of.width < to.width,
@@ -30,6 +35,8 @@ CASTS = {  # of one lane
     "addrspacecast": lambda of, to: is_pointer(of) and is_pointer(to) and of != to,
 }
 ENDS = ("ret", "br", "cond_br", "unreachable")
+NO_RESULT = (*ENDS, "store")
+ALIGNS = 1 << 31  # the greatest alignment
 
 
 class NotYet(Exception):
@@ -334,10 +341,10 @@ class Reader:
         need(type == BIT, "a condition's type")
         return value, type
 
-    def row(self, kind, given, type, values, flags=(), predicate=None, to=None):
-        """An instruction with a result of that type; its operands come with the type of each."""
+    def row(self, kind, given, type, values, flags=(), predicate=None, to=None, align=None):
+        """An instruction with a result of that type, or with none; its operands come with the type of each."""
         return Node(kind=kind, name=given, type=type, operands=[v for v, _ in values], of=[t for _, t in values],
-                    flags=list(flags), predicate=predicate, to=to)
+                    flags=list(flags), predicate=predicate, to=to, align=align, targets=[])
 
     def inst(self):
         given = None
@@ -368,10 +375,44 @@ class Reader:
         if word == "freeze":
             value, type = self.typed()
             return self.row(word, given, type, [(value, type)])
+        if word == "load":
+            flags = self.volatile()
+            type = self.type()
+            need(is_sized(type), "a load of no size")
+            self.want(",")
+            return self.row(word, given, type, [self.address()], flags=flags, to=type, align=self.align())
+        if word == "va_arg":
+            address = self.address()
+            self.want(",")
+            type = self.type()
+            return self.row(word, given, type, [address], to=type)
         if word == "phi":
             return self.phi(given)
-        need(given is None, "a result of a terminator")
+        need(given is None, "a result of what has none")
+        if word == "store":
+            flags = self.volatile()
+            stored = self.typed()
+            need(is_sized(stored[1]), "a store of no size")
+            self.want(",")
+            return self.row(word, None, None, [stored, self.address()], flags=flags, align=self.align())
         return self.terminator(word)
+
+    def volatile(self):
+        return ["volatile"] if self.skip("volatile") else []
+
+    def address(self):
+        value, type = self.typed()
+        need(is_pointer(type), f"an address of {type}")
+        return value, type
+
+    def align(self):
+        """An alignment behind a comma, where there is one."""
+        if not self.skip(","):
+            return None
+        self.want("align")
+        number = self.take("number")
+        need(number.isdigit() and 1 <= int(number) <= ALIGNS and int(number).bit_count() == 1, "alignment")
+        return int(number)
 
     def cast(self, word, given):
         flags = ["nneg"] if word == "zext" and self.skip("nneg") else []

@@ -13,6 +13,8 @@ use Rattle.dialect_core.specs.declared.linkage.LinkageAttr.TheVariants as L
 use Rattle.dialect_core.specs.declared.ops.Value.{Value}
 use Rattle.dialect_core.specs.declared.ops.Value.TheVariants.{Result, Argument}
 use Rattle.dialect_core.specs.declared.ops.Successor.{Successor}
+use Rattle.kinds.specs.declared.access.Align.{Align}
+use Rattle.kinds.specs.Access.{bytes_of}
 use Rattle.kinds.specs.declared.fill.Fill.{Fill}
 use Rattle.kinds.specs.declared.fill.Fill.TheVariants as F
 use Rattle.kinds.specs.declared.op.Immediates.{Immediates}
@@ -137,12 +139,23 @@ abbrev pub keys_text : List (List ℕ) → List ℕ
 keys_text [] = []
 keys_text (k ∷ ks) = codes " {" ++ joined (k ∷ ks) ++ codes "}"
 
+-- the key of an alignment, where there is one
+abbrev pub align_key : Option Align → List (List ℕ)
+align_key None = []
+align_key (Some align) = (codes "align = " ++ decimal (bytes_of align)) ∷ []
+
+-- what stands behind an alignment
+abbrev pub behind_align : (volatile : Bool) → List ℕ
+behind_align true = codes ", volatile}"
+behind_align false = codes "}"
+
 -- the immediates of a row, a line for each sort
 abbrev pub row_immediates_text : Immediates → List ℕ
 row_immediates_text M.Nothing = []
 row_immediates_text (M.Overflow flags) = keys_text (flag_key flags.nsw (codes "nsw") ++ flag_key flags.nuw (codes "nuw"))
 row_immediates_text (M.Predicate predicate) = codes " {predicate = " ++ predicate_text predicate ++ codes "}"
 row_immediates_text (M.NonNegative nneg) = keys_text (flag_key nneg (codes "nneg"))
+row_immediates_text (M.Access access) = keys_text (align_key access.align ++ flag_key access.volatile (codes "volatile"))
 
 -- its immediates, where it has any
 abbrev pub immediates_text : Kind → List ℕ

@@ -1,13 +1,13 @@
 //! The dialect text of operations: their values, successors, immediates and types.
 
-ghost use Rattle.std.specs.Prelude.{◌≡◌, ◌<◌, ◌++◌, IfSome, List, OnOk, length};
+ghost use Rattle.std.specs.Prelude.{◌≡◌, ◌<◌, ◌++◌, IfSome, List, OnOk, Some, length};
 ghost use Rattle.std.specs.Option.{option_copied, option_map};
 ghost use Rattle.dialect_types.specs.Trees.{TypeTree, type_at, type_trees};
 ghost use Rattle.const_attrs.specs.Trees.{attr_tree, attr_data, HasTypesBelow};
 ghost use Rattle.dialect_types.specs.Text.{Keeps};
 ghost use Rattle.dialect_core.specs.Data.{ConstantOp, HasKindTypesBelow, kind_of, op_of, IsTypedOp};
 ghost use Rattle.dialect_core.specs.Numbering.{value_at, block_at};
-ghost use Rattle.dialect_core.specs.Text.{option_text, number_text, colon_text, value_text, block_name_text, values_text, successor_text, successors_text, gives_text, head_text, immediates_text, row_immediates_text, predicate_text, result_type_text, tail_text, fill_word, kind_word, op_text};
+ghost use Rattle.dialect_core.specs.Text.{option_text, number_text, colon_text, value_text, block_name_text, values_text, successor_text, successors_text, gives_text, head_text, immediates_text, row_immediates_text, behind_align, predicate_text, result_type_text, tail_text, fill_word, kind_word, op_text};
 ghost use Rattle.kinds.specs.declared.op.Immediates.TheVariants as sorts;
 
 use crate::numbering::Numbering;
@@ -18,6 +18,7 @@ use dialect_types::identifier::Identifier;
 use dialect_types::printing::{print_comma_before, print_number};
 use dialect_types::type_store::TypeStore;
 use dialect_types::types::TypeHandle;
+use kinds::access::{Access, Align};
 use kinds::fill::Fill;
 use kinds::op::{Immediates, LLVMIntPredicate, OverflowFlags};
 use std::alloc::AllocError;
@@ -213,6 +214,35 @@ fn print_predicate(predicate: LLVMIntPredicate, out: &mut Vec<u8>) -> Result<(),
     out.extend_from_slice(b"}")
 }
 
+/// What stands behind an alignment.
+fn behind_align(volatile: bool) -> &'static [u8]
+    ensures { result.now ≡ behind_align volatile }
+{
+    if volatile { b", volatile}" } else { b"}" }
+}
+
+/// Appends an alignment in braces, and the key of a volatile access behind it.
+fn print_align(align: Align, volatile: bool, out: &mut Vec<u8>) -> Result<(), AllocError>
+    ensures ok { OnOk result (out.new.items ≡ out.old.items ++ row_immediates_text (sorts.Access (record { align = Some align; volatile = volatile }))) }
+    ensures kept { Keeps out.old.items out.new.items }
+{
+    out.extend_from_slice(b" {align = ")?;
+    print_number(u64::from(align.bytes()), out)?;
+    out.extend_from_slice(behind_align(volatile))
+}
+
+/// Appends how memory is read or written, in braces, where that is said.
+fn print_access(access: Access, out: &mut Vec<u8>) -> Result<(), AllocError>
+    ensures ok { OnOk result (out.new.items ≡ out.old.items ++ row_immediates_text (sorts.Access access)) }
+    ensures kept { Keeps out.old.items out.new.items }
+{
+    match (access.align, access.volatile) {
+        (Some(align), volatile) => print_align(align, volatile, out),
+        (None, true) => out.extend_from_slice(b" {volatile}"),
+        (None, false) => Ok(()),
+    }
+}
+
 /// Appends ` : t`, where there is a type.
 fn print_result_type(
     types: &TypeStore,
@@ -280,6 +310,7 @@ fn print_row_immediates(held: Immediates, out: &mut Vec<u8>) -> Result<(), Alloc
         Immediates::Predicate(predicate) => print_predicate(predicate, out),
         Immediates::NonNegative(true) => out.extend_from_slice(b" {nneg}"),
         Immediates::NonNegative(false) => Ok(()),
+        Immediates::Access(access) => print_access(access, out),
     }
 }
 

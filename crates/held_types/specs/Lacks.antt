@@ -1,5 +1,5 @@
 -- Constants that no import gives an attribute, by their numbers.
-use Rattle.std.specs.Prelude.{ℕ, ◌≡◌, ◌<◌, List, Option, Some, None, All, length, slice_get}
+use Rattle.std.specs.Prelude.{ℕ, ◌≡◌, List, Option, Some, None, All, slice_get}
 use Rattle.llvm_core.specs.declared.numbers.LLVMConst.{LLVMConst}
 use Rattle.llvm_core.specs.declared.code.LLVMValue.{LLVMValue}
 use Rattle.llvm_core.specs.declared.code.LLVMValue.TheVariants as V

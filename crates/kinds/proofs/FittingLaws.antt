@@ -11,7 +11,7 @@ use Rattle.kinds.specs.declared.rules.Gives.TheVariants as G
 use Rattle.kinds.specs.declared.rules.Rule.{Rule}
 use Rattle.kinds.specs.declared.rules.Cast.{Cast}
 use Rattle.kinds.specs.declared.fitting.Laned.{Laned}
-use Rattle.kinds.specs.Fitting.{is_value, is_number, is_comparable, is_bit, is_one, is_cast_laned, is_chosen_laned, is_same, is_chosen, is_cast_to, fit_one, fit, takes_fit, is_no_type, is_value_type, is_written, fits}
+use Rattle.kinds.specs.Fitting.{is_value, is_number, is_comparable, is_sized, is_bit, is_one, is_address, is_cast_laned, is_chosen_laned, is_same, is_chosen, is_cast_to, is_place, fit_one, fit, takes_fit, is_no_type, is_value_type, is_written, fits}
 
 module _ {X Y : Type 0} (laned : X → Laned) (same : X → X → Bool) (laned' : Y → Laned) (same' : Y → Y → Bool) (h : X → Y) (Good : X → Type 0)
     (keeps : (t : X) → Good t → laned' (h t) ≡ laned t) (told : (s t : X) → Good s → Good t → same' (h s) (h t) ≡ same s t) where
@@ -27,11 +27,18 @@ module _ {X Y : Type 0} (laned : X → Laned) (same : X → X → Bool) (laned' 
   cast_kept by None t g k = refl
   cast_kept by (Some w) t g k = ap (λ (l : Laned). is_cast_laned by l (laned' (h w))) (keeps t k) ∙ ap (is_cast_laned by (laned t)) (keeps w g)
 
+  place_kept : (w : Option X) (t : X) → IfSome w Good → Good t → is_place laned' same' (option_map h w) (h t) ≡ is_place laned same w t
+  place_kept None t g k = refl
+  place_kept (Some w) t g k = ap (λ (l : Laned). is_address (laned' (h t)) && is_sized l.lane) (keeps w g) ∙ ap (λ (l : Laned). is_address l && is_sized (laned w).lane) (keeps t k)
+
   one_kept : (f : Fit) (w a b : Option X) (t : X) → IfSome w Good → IfSome a Good → IfSome b Good → Good t
       → fit_one laned' same' f (option_map h w) (option_map h a) (option_map h b) (h t) ≡ fit_one laned same f w a b t
   one_kept F.Any w a b t gw ga gb k = ap (λ (l : Laned). is_value l.lane) (keeps t k)
   one_kept F.Number w a b t gw ga gb k = ap (λ (l : Laned). is_number l.lane) (keeps t k)
   one_kept F.Comparable w a b t gw ga gb k = ap (λ (l : Laned). is_comparable l.lane) (keeps t k)
+  one_kept F.Sized w a b t gw ga gb k = ap (λ (l : Laned). is_sized l.lane) (keeps t k)
+  one_kept F.Address w a b t gw ga gb k = ap is_address (keeps t k)
+  one_kept F.Place w a b t gw ga gb k = place_kept w t gw k
   one_kept F.Bit w a b t gw ga gb k = ap (λ (l : Laned). is_one l.lanes && is_bit l.lane) (keeps t k)
   one_kept F.Bits w a b t gw ga gb k = ap (λ (l : Laned). is_bit l.lane) (keeps t k)
   one_kept F.Chosen w a b t gw ga gb k = chosen_kept a t ga k

@@ -3,11 +3,10 @@ use Rattle.std.proofs.Common.{arith, ◌≡◌, ◌≤◌, ◌<◌, ◌^◌, ℕ
 use Rattle.kinds.specs.declared.fitting.Shape.{Shape}
 use Rattle.kinds.specs.declared.fitting.Shape.TheVariants as S
 use Rattle.kinds.specs.Types.{TypeTree, VoidType, IntType, PointerType, FloatingType, RefusedType, ArrayType, VectorType, StructType, NamedType, FunctionType, shape, laned, bits_of, depth, parts_of}
-use Rattle.kinds.specs.Fitting.{is_value, is_first_class, is_held, is_vector_of}
+use Rattle.kinds.specs.Fitting.{is_value, is_first_class, is_held}
 use Rattle.kinds.specs.Held.{is_void, own_type, too_deep, throughout, IsShallow, IsFirstClass, IsReturned, IsHeld, IsHeldResult, refused_of}
-use Rattle.kinds.proofs.TypeLaws.{and_left}
 use Rattle.kinds.proofs.DepthLaws.{flat_shallow, parts_shallow}
-use Rattle.kinds.proofs.PartLaws.{vector_part, and_both, throughout_shape, parts_throughout, throughout_weaker, first_held, All-both}
+use Rattle.kinds.proofs.PartLaws.{throughout_shape, parts_throughout, throughout_weaker, first_held, All-both}
 
 -- ---- void
 
@@ -89,11 +88,6 @@ first_class_own t h = value_own t (first_class_value t h)
 pub lane_own : (t : TypeTree) → is_value (laned t).lane ≡ true → is_void t ≡ false
 lane_own (VectorType k n t) e = refl
 lane_own t e = value_own t e
-
-pub first_class_lane : (t : TypeTree) → IsFirstClass t → is_value (laned t).lane ≡ true
-unfolding IsFirstClass
-first_class_lane (VectorType k n t) h = shape_value (shape t) (vector_part n (shape t) (and_left (is_vector_of n (shape t)) (throughout is_first_class t) h.0))
-first_class_lane t h = first_class_value t h
 
 -- what is returned is of a value, unless it is void
 pub returned_own : (t : TypeTree) → IsReturned t → is_void t ≡ false → IsFirstClass t
@@ -224,35 +218,12 @@ returned_held t h none = by (is_void t) refl
     by true is = held_result_void t is
     by false is = let own = returned_own t h is in held_result_if t (held_by t (first_held t none (first_class_throughout t own)) (first_class_shallow t own))
 
-pub held_lane : (t : TypeTree) → IsHeld t → is_value (laned t).lane ≡ true
-held_lane t h = first_class_lane t (held_first_class t h)
-
 -- ---- bits
 
--- as many bits as a vector of values has lanes are a vector of values
-pub bit_lanes : (n : ℕ) (s : Shape) → is_vector_of n s ≡ true → is_vector_of n (S.Int 1) ≡ true
-bit_lanes n s h = grind arith
-
-bits_throughout : (p : Shape → Bool) (q : Shape → Bool) → q (S.Int 1) ≡ true → (t : TypeTree) → throughout p t ≡ true → throughout q (bits_of t) ≡ true
-bits_throughout p q bit (VectorType k n t) h = and_both (is_vector_of n (S.Int 1)) (q (S.Int 1)) (bit_lanes n (shape t) (and_left (is_vector_of n (shape t)) (throughout p t) h)) bit
-bits_throughout p q bit t h = bit
-
--- they have a type
+-- bits have a type
 pub bits_own : (t : TypeTree) → is_void (bits_of t) ≡ false
 bits_own (VectorType k n t) = refl
 bits_own t = refl
-
-bits_shallow : (t : TypeTree) → IsShallow (bits_of t)
-bits_shallow (VectorType k n t) = flat_shallow (VectorType k n (IntType 1)) (omega arith)
-bits_shallow t = flat_shallow (IntType 1) (omega arith)
-
-pub bits_first_class : (t : TypeTree) → IsFirstClass t → IsFirstClass (bits_of t)
-unfolding IsFirstClass
-bits_first_class t h = (bits_throughout is_first_class is_first_class (grind arith) t h.0, bits_shallow t)
-
-pub bits_held : (t : TypeTree) → IsFirstClass t → IsHeld (bits_of t)
-unfolding IsFirstClass IsHeld
-bits_held t h = (bits_throughout is_first_class is_held (grind arith) t h.0, bits_shallow t)
 
 -- ---- integers
 

@@ -7,6 +7,7 @@ pub mod PartLaws
 pub mod FittingLaws
 pub mod TableLaws
 pub mod OpLaws
+pub mod AccessLaws
 pub mod HeldLaws
 pub mod NameLaws
 pub mod LaneLaws

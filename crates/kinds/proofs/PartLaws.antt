@@ -47,7 +47,7 @@ parts_throughout p none (StructType l ts) h = each_passes p ts h
 parts_throughout p none (FunctionType r ps v) h = cc
 parts_throughout p none t h = All-nil (Passes p)
 
-pub and_both : (a b : Bool) → a ≡ true → b ≡ true → (a && b) ≡ true
+and_both : (a b : Bool) → a ≡ true → b ≡ true → (a && b) ≡ true
 and_both a b e f = cc
 
 mutual

@@ -31,6 +31,9 @@ abbrev pub names_earlier : (first second : Bool) → Fit → Bool
 names_earlier first second F.Any = true
 names_earlier first second F.Number = true
 names_earlier first second F.Comparable = true
+names_earlier first second F.Sized = true
+names_earlier first second F.Address = true
+names_earlier first second F.Place = true
 names_earlier first second F.Bit = true
 names_earlier first second F.Bits = true
 names_earlier first second F.Chosen = first

@@ -159,6 +159,10 @@ is_elsewhere _ _ = false
 abbrev pub is_comparable : Shape → Bool
 is_comparable s = is_number s || is_pointer s
 
+-- a value of it has a size, as that of any type but `token` (Language Reference, Token Type)
+abbrev pub is_sized : Shape → Bool
+is_sized s = is_value s && not (is_token s)
+
 -- a lane may be cast so: a line for each word
 abbrev pub is_cast : Cast → (from to : Shape) → Bool
 is_cast C.ToNarrower s t = is_wider s t
@@ -177,6 +181,10 @@ abbrev pub same_lanes : Lanes → Lanes → Bool
 same_lanes N.One N.One = true
 same_lanes (N.Many k n) (N.Many l m) = same_kind k l && nat_eq n m
 same_lanes _ _ = false
+
+-- a pointer, and no vector
+abbrev pub is_address : Laned → Bool
+is_address a = is_one a.lanes && is_pointer a.lane
 
 -- cast lane by lane
 abbrev pub is_cast_laned : Cast → (from to : Laned) → Bool
@@ -216,11 +224,19 @@ module _ {X : Type 0} (laned : X → Laned) (same : X → X → Bool) where
   is_cast_to by (Some w) own = is_cast_laned by (laned own) (laned w)
   is_cast_to by None own = false
 
+  -- a pointer, where what is written has a size
+  abbrev pub is_place : Option X → X → Bool
+  is_place (Some w) own = is_address (laned own) && is_sized (laned w).lane
+  is_place None own = false
+
   -- a line for each word: w is the type that is written, a and b are those of the first two operands
   abbrev pub fit_one : Fit → (w a b : Option X) → X → Bool
   fit_one F.Any w a b own = is_value (laned own).lane
   fit_one F.Number w a b own = is_number (laned own).lane
   fit_one F.Comparable w a b own = is_comparable (laned own).lane
+  fit_one F.Sized w a b own = is_sized (laned own).lane
+  fit_one F.Address w a b own = is_address (laned own)
+  fit_one F.Place w a b own = is_place w own
   fit_one F.Bit w a b own = is_one (laned own).lanes && is_bit (laned own).lane
   fit_one F.Bits w a b own = is_bit (laned own).lane
   fit_one F.Chosen w a b own = is_chosen a own

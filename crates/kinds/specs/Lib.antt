@@ -1,6 +1,7 @@
 -- The definitions that contracts cite.
 pub mod Types
 pub mod Rules
+pub mod Access
 pub mod Table
 pub mod Fitting
 pub mod Fill

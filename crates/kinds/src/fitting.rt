@@ -2,7 +2,7 @@
 
 ghost use Rattle.std.specs.Prelude.{◌≡◌};
 ghost use Rattle.kinds.specs.Types.{same_kind};
-ghost use Rattle.kinds.specs.Fitting.{fit, is_same, is_written, takes_fit, fits, view_same, view_laned, is_cast, is_bits_laned, is_cast_laned, is_chosen_laned, is_comparable, is_elsewhere, is_one, same_lanes, is_wider, is_value, is_number, is_pointer, is_bit, is_nothing, is_function, is_first_class, is_held, is_token, is_amx, is_made, is_field, is_array_of, is_vector_of};
+ghost use Rattle.kinds.specs.Fitting.{fit, is_same, is_written, takes_fit, fits, view_same, view_laned, is_cast, is_bits_laned, is_cast_laned, is_chosen_laned, is_address, is_comparable, is_sized, is_elsewhere, is_one, same_lanes, is_wider, is_value, is_number, is_pointer, is_bit, is_nothing, is_function, is_first_class, is_held, is_token, is_amx, is_made, is_field, is_array_of, is_vector_of};
 
 use crate::rules::{Cast, Fit, Gives, Rule, Takes};
 use crate::types::{Lanes, OtherType, VectorTypeKind};
@@ -241,6 +241,13 @@ fn is_comparable(shape: Shape) -> bool
     is_number(shape) || is_pointer(shape)
 }
 
+/// Whether a value of it has a size (Language Reference, Token Type).
+fn is_sized(shape: Shape) -> bool
+    ensures { result ≡ is_sized shape }
+{
+    is_value(shape) && !is_token(shape)
+}
+
 /// Whether a lane may be cast so: a line for each word.
 fn is_cast(by: Cast, from: Shape, to: Shape) -> bool
     ensures { result ≡ is_cast by from to }
@@ -281,6 +288,13 @@ fn same_lanes(a: Lanes, b: Lanes) -> bool
         (Lanes::Many(k, n), Lanes::Many(l, m)) => same_kind(k, l) && n == m,
         _ => false,
     }
+}
+
+/// Whether it is that of a pointer, and of no vector.
+fn is_address(own: Laned) -> bool
+    ensures { result ≡ is_address own }
+{
+    is_one(own.lanes) && is_pointer(own.lane)
 }
 
 /// Whether a value is cast so, lane by lane.
@@ -331,6 +345,12 @@ fn fit(
         Fit::Any => is_value(own.laned.lane),
         Fit::Number => is_number(own.laned.lane),
         Fit::Comparable => is_comparable(own.laned.lane),
+        Fit::Sized => is_sized(own.laned.lane),
+        Fit::Address => is_address(own.laned),
+        Fit::Place => match written {
+            Some(written) => is_address(own.laned) && is_sized(written.laned.lane),
+            None => false,
+        },
         Fit::Bit => is_one(own.laned.lanes) && is_bit(own.laned.lane),
         Fit::Bits => is_bit(own.laned.lane),
         Fit::Chosen => match a {

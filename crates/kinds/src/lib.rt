@@ -2,6 +2,7 @@
 //! where it leads, as data; one evaluator of that; and the tree of types.
 #![tactic(auto)]
 
+pub mod access;
 pub mod fill;
 pub mod fitting;
 pub mod names;

@@ -3,6 +3,7 @@
 ghost use Rattle.std.specs.Prelude.{◌≡◌};
 ghost use Rattle.kinds.specs.Table.{immediates_of, rule_of, op_word};
 
+use crate::access::Access;
 use crate::rules::{Cast, Family, Fit, Gives, Leads, Rule, Takes};
 
 /// Which overflows make the result poison (Language Reference, "add" Instruction).
@@ -14,7 +15,7 @@ pub struct OverflowFlags {
     pub nsw: bool,
 }
 
-/// How `icmp` compares two integers or pointers (Language Reference, "icmp" Instruction).
+/// How `icmp` compares two integers or pointers, or vectors of these (Language Reference, "icmp" Instruction).
 #[derive(Clone, Copy, PartialEq, Eq, Hash, Debug, Drop)]
 pub enum LLVMIntPredicate {
     LLVMIntEQ,
@@ -77,6 +78,12 @@ pub enum Op {
     Select,
     /// `freeze` (Language Reference, "freeze" Instruction).
     Freeze,
+    /// `load` (Language Reference, "load" Instruction).
+    Load(Access),
+    /// `store` (Language Reference, "store" Instruction).
+    Store(Access),
+    /// `va_arg` (Language Reference, "va_arg" Instruction).
+    VAArg,
     /// `br` to a block (Language Reference, "br" Instruction).
     Br,
     /// `br` on a condition: to the first block where it is true, else to the second.
@@ -95,6 +102,8 @@ pub enum Immediates {
     Predicate(LLVMIntPredicate),
     /// Whether the operand is known not to be negative.
     NonNegative(bool),
+    /// How memory is read or written.
+    Access(Access),
 }
 
 /// A line of the table.
@@ -138,6 +147,9 @@ impl Op {
             Op::AddrSpaceCast => rule(Takes::One(Fit::Cast(Cast::ToSpace)), Gives::Written, Leads::On, Family::Shows),
             Op::Select => rule(Takes::Three(Fit::Bits, Fit::Chosen, Fit::Second), Gives::Second, Leads::On, Family::Shows),
             Op::Freeze => rule(Takes::One(Fit::Any), Gives::First, Leads::On, Family::Shows),
+            Op::Load(_) => rule(Takes::One(Fit::Place), Gives::Written, Leads::On, Family::Shows),
+            Op::Store(_) => rule(Takes::Two(Fit::Sized, Fit::Address), Gives::Nothing, Leads::On, Family::Shows),
+            Op::VAArg => rule(Takes::One(Fit::Address), Gives::Written, Leads::On, Family::Shows),
             Op::Br => rule(Takes::Nothing, Gives::Nothing, Leads::To(1), Family::Shows),
             Op::CondBr => rule(Takes::One(Fit::Bit), Gives::Nothing, Leads::To(2), Family::Shows),
             Op::Ret => rule(Takes::Return, Gives::Nothing, Leads::To(0), Family::Shows),
@@ -172,6 +184,9 @@ impl Op {
             Op::AddrSpaceCast => Immediates::Nothing,
             Op::Select => Immediates::Nothing,
             Op::Freeze => Immediates::Nothing,
+            Op::Load(access) => Immediates::Access(access),
+            Op::Store(access) => Immediates::Access(access),
+            Op::VAArg => Immediates::Nothing,
             Op::Br => Immediates::Nothing,
             Op::CondBr => Immediates::Nothing,
             Op::Ret => Immediates::Nothing,
@@ -206,6 +221,9 @@ impl Op {
             Op::AddrSpaceCast => b"llvm.addrspacecast",
             Op::Select => b"llvm.select",
             Op::Freeze => b"llvm.freeze",
+            Op::Load(_) => b"llvm.load",
+            Op::Store(_) => b"llvm.store",
+            Op::VAArg => b"llvm.va_arg",
             Op::Br => b"llvm.br",
             Op::CondBr => b"llvm.cond_br",
             Op::Ret => b"llvm.return",

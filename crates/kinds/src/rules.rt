@@ -3,7 +3,7 @@
 ghost use Rattle.std.specs.Prelude.{◌≡◌, ◌↔◌, IsTrue};
 ghost use Rattle.kinds.specs.Rules.{ends, target_count, operand_count};
 
-/// What the type of an operand has to be. A vector is that where each of its lanes is, but for `Bit`.
+/// What the type of an operand has to be. A vector is that where each of its lanes is, but for `Bit`, `Address` and `Place`.
 #[derive(Clone, Copy, PartialEq, Eq, Debug, Drop)]
 pub enum Fit {
     /// A type of a value.
@@ -12,9 +12,15 @@ pub enum Fit {
     Number,
     /// An integer or a pointer.
     Comparable,
+    /// A type of a value that has a size: any but `token`.
+    Sized,
+    /// A pointer, and no vector.
+    Address,
+    /// A pointer, and no vector, where the type that is written has a size.
+    Place,
     /// `i1`, and no vector.
     Bit,
-    /// `i1`.
+    /// `i1`, or a vector of it.
     Bits,
     /// A type of a value, with as many lanes as the first operand has, or with any where that is no vector.
     Chosen,

@@ -46,7 +46,7 @@ pub enum VectorTypeKind {
 pub enum Lanes {
     /// One, the whole: the type is no vector.
     One,
-    /// The elements of a vector, so many.
+    /// The elements of a vector, so many; one too.
     Many(VectorTypeKind, u32),
 }
 

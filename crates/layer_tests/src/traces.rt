@@ -1,5 +1,6 @@
-//! The traces of a loop that swaps, of functions of operations on integers, of constants and of values of structs with a name, each of
-//! a function of LLVM and of the dialect function that stands for it; and that of a dialect function that uses a value of another.
+//! The traces of a loop that swaps, of functions of operations on integers and of memory, of constants and of values of structs with
+//! a name, each of a function of LLVM and of the dialect function that stands for it; and that of a dialect function that uses a value
+//! of another.
 
 ghost use Rattle.std.specs.Prelude.{◌≡◌, ◌<◌, All, IfOk, IfSome, length};
 ghost use Rattle.llvm_core.specs.Checked.{IsChecked};
@@ -16,6 +17,7 @@ use crate::words::word;
 use dialect_core::context::Context;
 use dialect_core::linkage::LinkageAttr;
 use dialect_core::numbers::{FuncOp, ModuleOp};
+use kinds::access::{Access, Align};
 use kinds::fill::Fill;
 use kinds::op::Op;
 use ll_text::read::read_ll;
@@ -72,6 +74,19 @@ const OPERATIONS: &str = "define i8 @f(i32 %a, i32 %b, i1 %c) {
 const SHOWN: &str =
     "^0 udiv i32 i32 %0 %1 srem i32 i32 !0 %1 mul i32 i32 sub %0 freeze i8 trunc zext i8 !3 \
 xor i32 i32 !4 !0 select i1 i32 i32 %2 !5 %0 ret i8 trunc";
+
+/// Loads and stores, of which one is volatile.
+const MEMORY: &str = "define i32 @f(ptr %p, i32 %a) {
+  store volatile i32 %a, ptr %p, align 4
+  %x = load i32, ptr %p
+  store i32 %x, ptr %p
+  ret i32 %x
+}
+";
+
+/// What both of its traces show: a store is an event as another.
+const MEMORY_SHOWN: &str =
+    "^0 volatile i32 other %1 %0 load other %0 store i32 other !1 %0 ret i32 !1";
 
 /// Constants as operands: an integer, zero and undef.
 const CONSTANTS: &str = "define i32 @f(i32 %a) {
@@ -138,6 +153,24 @@ fn op_word(op: Op) -> &'static str {
         Op::ZExt(true) => "zext",
         Op::Select => "select",
         Op::Freeze => "freeze",
+        Op::Load(
+            Access {
+                align: None,
+                volatile: false,
+            },
+        ) => "load",
+        Op::Store(
+            Access {
+                align: None,
+                volatile: false,
+            },
+        ) => "store",
+        Op::Store(
+            Access {
+                align: Some(Align::P2),
+                volatile: true,
+            },
+        ) => "volatile",
         Op::Br => "br",
         Op::CondBr => "cond_br",
         Op::Ret => "ret",
@@ -318,6 +351,13 @@ fn both_show(alloc: Global, text: &str, want: &str, dialect: &str) -> (bool, boo
 #[test]
 fn both_sides_swap(rt: HostRuntime) {
     let (source, dialect) = both_show(rt.alloc(), SWAP, WANT, WANT);
+    assert!(rt; source, "the source");
+    assert!(rt; dialect, "the dialect");
+}
+
+#[test]
+fn both_sides_show_memory(rt: HostRuntime) {
+    let (source, dialect) = both_show(rt.alloc(), MEMORY, MEMORY_SHOWN, MEMORY_SHOWN);
     assert!(rt; source, "the source");
     assert!(rt; dialect, "the dialect");
 }

@@ -8,13 +8,14 @@ ghost use Rattle.llvm_core.specs.declared.code.LLVMValue.TheVariants as values;
 ghost use Rattle.llvm_core.specs.Parts.{value_type};
 ghost use Rattle.llvm_core.specs.Sound.{IsModule};
 ghost use Rattle.llvm_core.specs.Data.{trees_of, type_at, operand_of, entry_of, instruction_of, structs_of};
-ghost use Rattle.ll_print.specs.Printing.{type_text, flag_text, predicate_text, entry_text, entries_text, operands_text, values_text, to_text, flagged_text, returned_text, targets_text, row_head, row_names, instruction_text};
+ghost use Rattle.ll_print.specs.Printing.{type_text, flag_text, predicate_text, entry_text, entries_text, operands_text, values_text, to_text, before_text, after_text, align_text, flagged_text, returned_text, targets_text, row_head, row_names, instruction_text};
 ghost use Rattle.ll_print.specs.Parts.{function_in, gives_of, line_of, IsOwn, IsOwnBlock, OwnsEntry, OwnsOperands, OwnsInst, IsPrinting};
 
 use crate::numbers::Numbers;
 use crate::operands::{put_block_ref, put_local, put_operand, put_value};
 use crate::places::Place;
-use crate::types::{is_void, put_comma, put_type};
+use crate::types::{is_void, put_comma, put_decimal, put_type};
+use kinds::access::Align;
 use kinds::op::{LLVMIntPredicate, Op, OverflowFlags};
 use llvm_core::code::{LLVMInst, LLVMValue, PhiEntry, Row};
 use llvm_core::module::LLVMModule;
@@ -45,14 +46,16 @@ fn put_flagged(word: &[u8], flags: OverflowFlags, out: &mut Vec<u8>) -> Result<(
     put_flags(flags, out)
 }
 
-/// `zext` and its flag, each before a blank.
-fn put_zext(nneg: bool, out: &mut Vec<u8>) -> Result<(), AllocError>
-    ensures text { OnOk result (out.new.items ≡ out.old.items ++ (codes "zext " ++ flag_text (codes "nneg") nneg)) }
+/// A word, and a flag where it is set, each before a blank.
+fn put_flag_head(word: &[u8], flag: &[u8], set: bool, out: &mut Vec<u8>) -> Result<(), AllocError>
+    ensures text { OnOk result (out.new.items ≡ out.old.items ++ (word.now ++ codes " " ++ flag_text flag.now set)) }
     ensures kept { Keeps out.old.items out.new.items }
 {
-    out.extend_from_slice(b"zext ")?;
-    if nneg {
-        out.extend_from_slice(b"nneg ")?;
+    out.extend_from_slice(word)?;
+    out.push(b' ')?;
+    if set {
+        out.extend_from_slice(flag)?;
+        out.push(b' ')?;
     }
     Ok(())
 }
@@ -227,12 +230,15 @@ fn put_head(op: Op, out: &mut Vec<u8>) -> Result<(), AllocError>
         Op::ICmp(predicate) => put_predicate(predicate, out),
         Op::Trunc => out.extend_from_slice(b"trunc "),
         Op::SExt => out.extend_from_slice(b"sext "),
-        Op::ZExt(nneg) => put_zext(nneg, out),
+        Op::ZExt(nneg) => put_flag_head(b"zext", b"nneg", nneg, out),
         Op::PtrToInt => out.extend_from_slice(b"ptrtoint "),
         Op::IntToPtr => out.extend_from_slice(b"inttoptr "),
         Op::AddrSpaceCast => out.extend_from_slice(b"addrspacecast "),
         Op::Select => out.extend_from_slice(b"select "),
         Op::Freeze => out.extend_from_slice(b"freeze "),
+        Op::Load(access) => put_flag_head(b"load", b"volatile", access.volatile, out),
+        Op::Store(access) => put_flag_head(b"store", b"volatile", access.volatile, out),
+        Op::VAArg => out.extend_from_slice(b"va_arg "),
         Op::Br => out.extend_from_slice(b"br "),
         Op::CondBr => out.extend_from_slice(b"br "),
         Op::Ret => out.extend_from_slice(b"ret "),
@@ -277,7 +283,51 @@ fn put_written(
     put_type(m, ty, out)
 }
 
-/// What a row names: most rows their operands, and behind them the type where one is written.
+/// The type that is written before operands.
+fn put_before(
+    m: &LLVMModule,
+    written: Option<LLVMType>,
+    out: &mut Vec<u8>,
+) -> Result<(), AllocError>
+    requires sound { IsModule m.now }
+    requires within { IfSome written (λ t. t.0 < length m.now.types) }
+    ensures text { OnOk result (out.new.items ≡ out.old.items ++ before_text (option_map (type_at (trees_of m.now).types) written)) }
+    ensures kept { Keeps out.old.items out.new.items }
+{
+    let Some(ty) = written else {
+        return Ok(());
+    };
+    put_type(m, ty, out)?;
+    out.extend_from_slice(b", ")
+}
+
+/// The type that is written behind operands, and a comma between.
+fn put_after(m: &LLVMModule, written: Option<LLVMType>, out: &mut Vec<u8>) -> Result<(), AllocError>
+    requires sound { IsModule m.now }
+    requires within { IfSome written (λ t. t.0 < length m.now.types) }
+    ensures text { OnOk result (out.new.items ≡ out.old.items ++ after_text (option_map (type_at (trees_of m.now).types) written)) }
+    ensures kept { Keeps out.old.items out.new.items }
+{
+    let Some(ty) = written else {
+        return Ok(());
+    };
+    out.extend_from_slice(b", ")?;
+    put_type(m, ty, out)
+}
+
+/// An alignment behind operands, where there is one.
+fn put_align(align: Option<Align>, out: &mut Vec<u8>) -> Result<(), AllocError>
+    ensures text { OnOk result (out.new.items ≡ out.old.items ++ align_text align) }
+    ensures kept { Keeps out.old.items out.new.items }
+{
+    let Some(align) = align else {
+        return Ok(());
+    };
+    out.extend_from_slice(b", align ")?;
+    put_decimal(u128::from(align.bytes()), out)
+}
+
+/// What a row names, and immediates that stand behind it: most rows their operands, and behind them the type where one is written.
 fn put_names(
     m: &LLVMModule,
     numbers: &Numbers,
@@ -295,6 +345,19 @@ fn put_names(
     let targets = row.targets.as_slice();
     match row.op {
         Op::Select => put_values(m, numbers, operands, out),
+        Op::Load(access) => {
+            put_before(m, row.written, out)?;
+            put_values(m, numbers, operands, out)?;
+            put_align(access.align, out)
+        }
+        Op::Store(access) => {
+            put_values(m, numbers, operands, out)?;
+            put_align(access.align, out)
+        }
+        Op::VAArg => {
+            put_operands(m, numbers, operands, out)?;
+            put_after(m, row.written, out)
+        }
         Op::Br => put_targets(m, numbers, targets, out),
         Op::CondBr => {
             put_operands(m, numbers, operands, out)?;

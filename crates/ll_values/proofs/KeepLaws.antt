@@ -190,6 +190,7 @@ module _ (bytes : List ℕ) (m n : Module) (s t : Store) (g : Interns m n) (k : 
   value_same (V.Braced l i) h = rw (literal_same l h.0, consts_at_same i h.1) refl
   value_same (V.Typed x) h = ap S.TypedV (typed_same bytes m n g (made_in s) (table_of bytes (trees_of m) s) (table_of bytes (trees_of n) t) same_says x h)
   value_same (V.Space i) h = refl
+  value_same (V.Align align) h = refl
   value_same (V.Pair ty a b) h = rw (g.types ty h.0, said_kept a h.1, said_kept b h.2) refl
   value_same (V.Entry e) h = ap S.EntryV (entry_same e h)
   value_same (V.Entries i) h = ap S.EntriesV (entries_at_same i h)
@@ -224,6 +225,7 @@ module _ (bytes : List ℕ) (m n : Module) (s t : Store) (g : Interns m n) (k : 
   value_there (V.Braced l i) h = (literal_there m n s t g k l h.0, omega (arith, k.consts.count, h.1))
   value_there (V.Typed x) h = typed_there m n g (made_in s) (made_in t) (table_longer s.table.items t.table.items k.table) x h
   value_there (V.Space i) h = tt
+  value_there (V.Align align) h = tt
   value_there (V.Pair ty a b) h = (omega (arith, g.type_count, h.0), said_stays a h.1, said_stays b h.2)
   value_there (V.Entry e) h = literal_there m n s t g k e.literal h
   value_there (V.Entries i) h = omega (arith, k.entries.count, h)

@@ -9,7 +9,7 @@ use Rattle.ll_lines.specs.declared.lines.Inst.TheVariants as I
 use Rattle.ll_values.specs.declared.planned.Shape.{Shape}
 use Rattle.ll_values.specs.declared.planned.Shape.TheVariants as S
 
--- instructions of these operands, and one of one operand that is taken to a type
+-- instructions of these operands, and one of one operand with a type beside it
 abbrev pub row_of : Op → List Typed → (targets : List Name) → Inst
 row_of op operands targets = I.Row (record { op = op; written = None; operands = operands; targets = targets })
 
@@ -20,6 +20,7 @@ abbrev pub inst_of : Shape → Inst
 inst_of (S.Alone op) = row_of op [] []
 inst_of (S.One op x) = row_of op (x ∷ []) []
 inst_of (S.Pair op ty a b) = row_of op (record { ty = ty; said = a } ∷ record { ty = ty; said = b } ∷ []) []
+inst_of (S.Two op x y) = row_of op (x ∷ y ∷ []) []
 inst_of (S.Three op x y z) = row_of op (x ∷ y ∷ z ∷ []) []
 inst_of (S.Cast op x ty) = cast_of op x ty
 inst_of (S.Jump op to) = row_of op [] (to ∷ [])

@@ -1,6 +1,7 @@
 -- What the alternatives of the form say: the values of a text, and how each is made of the values in it.
 use Rattle.std.specs.Prelude.{ℕ, ◌-◌, ◌^◌, Bool, true, false, ◌&&◌, nat_le, if◌then◌else◌, List, [], ◌∷◌, Option, Some, None}
 use Rattle.std.specs.Option.{option_map, option_map_or}
+use Rattle.kinds.specs.declared.access.Align.{Align}
 use Rattle.kinds.specs.declared.op.OverflowFlags.{OverflowFlags}
 use Rattle.kinds.specs.declared.op.Op.{Op}
 use Rattle.kinds.specs.declared.op.Op.TheVariants as O
@@ -31,7 +32,7 @@ use Rattle.ll_values.specs.declared.form.RowKind.{RowKind}
 use Rattle.ll_values.specs.declared.form.RowKind.TheVariants as R
 use Rattle.ll_values.specs.declared.form.TypedKind.{TypedKind}
 use Rattle.ll_values.specs.declared.form.TypedKind.TheVariants as T
-use Rattle.ll_values.specs.Words.{binary_op, cast_op, three_op, predicate_of, flat_type, fill_of, no_wraps}
+use Rattle.ll_values.specs.Words.{binary_op, cast_op, three_op, predicate_of, align_said, flat_type, fill_of, no_wraps}
 
 -- a literal as it is written: its type is known from what it stands in
 pub data Literal : Type 0 where
@@ -74,6 +75,8 @@ pub data Value : Type 0 where
   TypedV : Typed → Value
   -- an address space
   SpaceV : ℕ → Value
+  -- an alignment, or none where none is written
+  AlignV : Option Align → Value
   PairV : Typed → Typed → Value
   EntryV : Entry → Value
   EntriesV : List Entry → Value
@@ -181,7 +184,7 @@ incoming τ (e ∷ es) = said τ e.literal >>= λ s. incoming τ es >>= λ more.
 abbrev pub row : Op → List Typed → (targets : List Text) → Inst
 row op operands targets = Row (record { op = op; written = None; operands = operands; targets = targets })
 
--- to that type
+-- of one operand, with that type beside it
 abbrev pub cast : Op → Typed → TypeTree → Inst
 cast op x τ = Row (record { op = op; written = Some τ; operands = x ∷ []; targets = [] })
 
@@ -213,6 +216,8 @@ detail_by D.Nuw (FlagV nsw ∷ []) = Some (WrapsV (record { nuw = true; nsw = ns
 detail_by D.Nsw [] = Some (WrapsV (record { nuw = false; nsw = true }))
 detail_by D.NoWraps [] = Some (WrapsV no_wraps)
 detail_by D.Space (TextV t ∷ []) = option_map SpaceV (up_to (2 ^ 24 - 1) (number_of t))
+detail_by D.NoAlign [] = Some (AlignV None)
+detail_by D.Align (TextV t ∷ NoneV ∷ []) = option_map (λ (a : Align). AlignV (Some a)) (align_said t)
 detail_by D.Entry (LiteralV ℓ ∷ TextV t ∷ []) = Some (EntryV (record { literal = ℓ; block = t }))
 detail_by D.Inst (InstV i ∷ NoneV ∷ []) = Some (InstV i)
 detail_by D.Named (TextV t ∷ InstV i ∷ []) = Some (PartV (Does (record { result = Some t; inst = i })))
@@ -263,6 +268,9 @@ row_by R.Trunc (NoneV ∷ TypedV x ∷ TypeV τ ∷ []) = Some (InstV (cast O.Tr
 row_by R.ZExt (FlagV nneg ∷ TypedV x ∷ TypeV τ ∷ []) = Some (InstV (cast (O.ZExt nneg) x τ))
 row_by R.Three (TextV word ∷ TypedV x ∷ TypedV y ∷ TypedV z ∷ []) = three_op word >>= λ op. Some (InstV (row op (x ∷ y ∷ z ∷ []) []))
 row_by R.Freeze (TypedV x ∷ []) = Some (InstV (row O.Freeze (x ∷ []) []))
+row_by R.Load (FlagV volatile ∷ TypeV τ ∷ TypedV x ∷ AlignV align ∷ []) = Some (InstV (cast (O.Load (record { align = align; volatile = volatile })) x τ))
+row_by R.Store (FlagV volatile ∷ TypedV x ∷ TypedV y ∷ AlignV align ∷ []) = Some (InstV (row (O.Store (record { align = align; volatile = volatile })) (x ∷ y ∷ []) []))
+row_by R.VAArg (TypedV x ∷ TypeV τ ∷ []) = Some (InstV (cast O.VAArg x τ))
 row_by R.Return (NoneV ∷ []) = Some (InstV (row O.Ret [] []))
 row_by R.Return (TypedV x ∷ []) = Some (InstV (row O.Ret (x ∷ []) []))
 row_by R.Jump (TextV t ∷ []) = Some (InstV (row O.Br [] (t ∷ [])))

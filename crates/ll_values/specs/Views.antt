@@ -24,7 +24,7 @@ use Rattle.ll_values.specs.declared.value.Structure.{Structure}
 use Rattle.ll_values.specs.declared.value.Value as code_value
 use Rattle.ll_values.specs.declared.value.Value.TheVariants as V
 use Rattle.ll_values.specs.Lists.{list_at}
-use Rattle.ll_values.specs.Values.{Literal, LocalL, ConstL, NullL, CharsL, ListedL, SplatL, Entry, Head, Value, NoneV, TextV, FlagV, WrapsV, TypeV, TypesV, LiteralV, ConstsV, BracedV, TypedV, SpaceV, PairV, EntryV, EntriesV, InstV, PartV, BodyV, ParamV, ParamsV, HeadV, SourceV, FunctionV, FieldsV, StructV, FileV, are_fields}
+use Rattle.ll_values.specs.Values.{Literal, LocalL, ConstL, NullL, CharsL, ListedL, SplatL, Entry, Head, Value, NoneV, TextV, FlagV, WrapsV, TypeV, TypesV, LiteralV, ConstsV, BracedV, TypedV, SpaceV, AlignV, PairV, EntryV, EntriesV, InstV, PartV, BodyV, ParamV, ParamsV, HeadV, SourceV, FunctionV, FieldsV, StructV, FileV, are_fields}
 
 -- ---- what is said
 
@@ -99,6 +99,7 @@ module _ (bytes : List ℕ) (t : Trees) (s : Store) where
   value_view (V.Braced l n) = BracedV (literal_view l) (consts_at n)
   value_view (V.Typed x) = TypedV (typed_view bytes t (table_of bytes t s) x)
   value_view (V.Space n) = SpaceV n
+  value_view (V.Align align) = AlignV align
   value_view (V.Pair ty a b) = PairV (typed_view bytes t (table_of bytes t s) (record { ty = ty; said = a })) (typed_view bytes t (table_of bytes t s) (record { ty = ty; said = b }))
   value_view (V.Entry e) = EntryV (entry_view e)
   value_view (V.Entries n) = EntriesV (entries_at n)
@@ -185,6 +186,7 @@ module _ (m : Module) (s : Store) where
   IsValueIn (V.Braced l n) = IsLiteralIn l × (n ≤ length s.consts)
   IsValueIn (V.Typed x) = IsTypedIn m (made_in s) x
   IsValueIn (V.Space n) = Unit {0}
+  IsValueIn (V.Align align) = Unit {0}
   IsValueIn (V.Pair ty a b) = IsTypeIn m ty × IsSaidIn m (made_in s) a × IsSaidIn m (made_in s) b
   IsValueIn (V.Entry e) = IsEntryIn e
   IsValueIn (V.Entries n) = n ≤ length s.entries

@@ -1,8 +1,10 @@
 -- Words of instructions, each with its row of the table, words of types, and words of constants of any type.
-use Rattle.std.specs.Prelude.{false, List, [], ◌∷◌, Option, codes}
+use Rattle.std.specs.Prelude.{◌^◌, false, List, [], ◌∷◌, Option, codes}
 use Rattle.std.specs.Option.{option_map}
 use Rattle.std.specs.Map.{lookup}
 use Rattle.std.specs.Str.{bytes_eq}
+use Rattle.kinds.specs.declared.access.Align.{Align}
+use Rattle.kinds.specs.Access.{align_of}
 use Rattle.kinds.specs.declared.fill.Fill.{Fill}
 use Rattle.kinds.specs.declared.fill.Fill.TheVariants as Z
 use Rattle.kinds.specs.declared.op.LLVMIntPredicate.{LLVMIntPredicate}
@@ -15,6 +17,8 @@ use Rattle.kinds.specs.declared.types.OtherType.TheVariants as X
 use Rattle.kinds.specs.Types.{TypeTree, FloatingType, RefusedType}
 use Rattle.ll_values.specs.declared.words.Flat.{Flat as FlatWord}
 use Rattle.ll_values.specs.declared.words.Flat.TheVariants as W
+use Rattle.ll_literals.specs.Chain.{◌>>=◌}
+use Rattle.ll_literals.specs.Numbers.{number_of, up_to}
 use Rattle.ll_lines.specs.Lines.{Text}
 
 abbrev pub no_wraps : OverflowFlags
@@ -52,6 +56,10 @@ predicate_rows =
 
 abbrev pub predicate_of : Text → Option LLVMIntPredicate
 predicate_of word = lookup (bytes_eq word) predicate_rows
+
+-- the alignment that digits say in bytes
+abbrev pub align_said : Text → Option Align
+align_said t = up_to (2 ^ 31) (number_of t) >>= align_of
 
 -- types that are a word alone
 abbrev pub flat_rows : List (Text × TypeTree)

@@ -21,6 +21,8 @@ pub enum DetailKind {
     Splat,
     Inst,
     Entry,
+    NoAlign,
+    Align,
     Nuw,
     Nsw,
     NoWraps,
@@ -66,6 +68,9 @@ pub enum RowKind {
     ZExt,
     Three,
     Freeze,
+    VAArg,
+    Load,
+    Store,
     Jump,
     Branch,
 }
@@ -128,6 +133,8 @@ impl DetailKind {
             DetailKind::Splat => 1,
             DetailKind::Inst => 2,
             DetailKind::Entry => 2,
+            DetailKind::NoAlign => 0,
+            DetailKind::Align => 2,
             DetailKind::Nuw => 1,
             DetailKind::Nsw => 0,
             DetailKind::NoWraps => 0,
@@ -183,6 +190,9 @@ impl RowKind {
             RowKind::ZExt => 3,
             RowKind::Three => 4,
             RowKind::Freeze => 1,
+            RowKind::VAArg => 2,
+            RowKind::Load => 4,
+            RowKind::Store => 4,
             RowKind::Jump => 1,
             RowKind::Branch => 3,
         }
@@ -647,8 +657,10 @@ pub static KINDS: [Kind; 541] = [
     // 331: inst = simple attached
     Kind::Detail(DetailKind::Inst),
     Kind::Outside,
-    Kind::Outside,
-    Kind::Outside,
+    // 333: inst = 'load' load
+    Kind::Same,
+    // 334: inst = 'store' store
+    Kind::Same,
     Kind::Outside,
     Kind::Outside,
     Kind::Outside,
@@ -693,7 +705,8 @@ pub static KINDS: [Kind; 541] = [
     Kind::Outside,
     // 361: simple = 'freeze' typed
     Kind::Row(RowKind::Freeze),
-    Kind::Outside,
+    // 362: simple = 'va_arg' typed ',' type
+    Kind::Row(RowKind::VAArg),
     Kind::Outside,
     // 364: value = LOCAL
     Kind::Detail(DetailKind::Local),
@@ -790,14 +803,18 @@ pub static KINDS: [Kind; 541] = [
     Kind::Outside,
     Kind::Outside,
     Kind::Outside,
+    // 433: load = volatile type ',' typed align_attached
+    Kind::Row(RowKind::Load),
     Kind::Outside,
     Kind::Outside,
+    // 436: store = volatile typed ',' typed align_attached
+    Kind::Row(RowKind::Store),
     Kind::Outside,
     Kind::Outside,
-    Kind::Outside,
-    Kind::Outside,
-    Kind::Outside,
-    Kind::Outside,
+    // 439: volatile = 'volatile'
+    Kind::Yes,
+    // 440: volatile = nothing
+    Kind::No,
     Kind::Outside,
     Kind::Outside,
     Kind::Outside,
@@ -832,9 +849,12 @@ pub static KINDS: [Kind; 541] = [
     // 469: entry_or_node = entry more_entries
     Kind::List(ListKind::EntriesMore),
     Kind::Outside,
-    Kind::Outside,
-    Kind::Outside,
-    Kind::Outside,
+    // 471: align_attached = ',' align_or_attached
+    Kind::Same,
+    // 472: align_attached = nothing
+    Kind::Detail(DetailKind::NoAlign),
+    // 473: align_or_attached = 'align' INT attached
+    Kind::Detail(DetailKind::Align),
     Kind::Outside,
     Kind::Outside,
     Kind::Outside,

@@ -10,7 +10,7 @@ use crate::stack::Stack;
 use crate::store::Store;
 use crate::value::{Entry, Literal, Piece, Value};
 use crate::value_err::ValueErr;
-use crate::words::space_of;
+use crate::words::{align_said, space_of};
 use kinds::op::OverflowFlags;
 use ll_lines::lines::{Param, Said, Typed};
 use llvm_core::module::LLVMModule;
@@ -49,5 +49,10 @@ pub fn put_detail(alloc: Global, m: &LLVMModule, store: &Store, bytes: &[u8], ki
         DetailKind::Source => match *stack.first(1) { [Value::Text(n)] => put(alloc, m, store, bytes, Kind::Detail(DetailKind::Source), stack, Value::Source(n)), _ => Err(ValueErr::NotYet) },
         DetailKind::Opaque => put(alloc, m, store, bytes, Kind::Detail(DetailKind::Opaque), stack, Value::Fields(None)),
         DetailKind::External => match *stack.first(1) { [Value::Text(_)] => put(alloc, m, store, bytes, Kind::Detail(DetailKind::External), stack, Value::Nothing), _ => Err(ValueErr::NotYet) },
+        DetailKind::NoAlign => put(alloc, m, store, bytes, Kind::Detail(DetailKind::NoAlign), stack, Value::Align(None)),
+        DetailKind::Align => match *stack.first(2) {
+            [Value::Text(n), Value::Nothing] => match align_said(n.text(bytes)) { Some(align) => put(alloc, m, store, bytes, Kind::Detail(DetailKind::Align), stack, Value::Align(Some(align))), None => Err(ValueErr::NotYet) },
+            _ => Err(ValueErr::NotYet),
+        },
     }
 }

@@ -13,6 +13,7 @@ use crate::planned::Planned;
 use crate::store::Store;
 use crate::value::Value;
 use crate::words::{binary_op, cast_op, predicate, three_op};
+use kinds::access::Access;
 use kinds::op::{Op, OverflowFlags};
 use llvm_core::module::LLVMModule;
 
@@ -47,6 +48,15 @@ pub fn plan_row(m: &LLVMModule, store: &Store, bytes: &[u8], kind: RowKind, part
             _ => None,
         },
         RowKind::Freeze => match *parts { [Value::Typed(x)] => Some(Planned::one(Op::Freeze, x)), _ => None },
+        RowKind::Load => match *parts {
+            [Value::Flag(volatile), Value::Type(ty), Value::Typed(x), Value::Align(align)] => Some(Planned::cast(Op::Load(Access { align, volatile }), x, ty)),
+            _ => None,
+        },
+        RowKind::Store => match *parts {
+            [Value::Flag(volatile), Value::Typed(x), Value::Typed(y), Value::Align(align)] => Some(Planned::two(Op::Store(Access { align, volatile }), x, y)),
+            _ => None,
+        },
+        RowKind::VAArg => match *parts { [Value::Typed(x), Value::Type(ty)] => Some(Planned::cast(Op::VAArg, x, ty)), _ => None },
         RowKind::Return => match *parts {
             [Value::Nothing] => Some(Planned::alone(Op::Ret)),
             [Value::Typed(x)] => Some(Planned::one(Op::Ret, x)),

@@ -19,8 +19,9 @@ enum Shape {
     One(Op, Typed),
     /// Two values of one type.
     Pair(Op, LLVMType, Said, Said),
+    Two(Op, Typed, Typed),
     Three(Op, Typed, Typed, Typed),
-    /// A value, and the type that it is taken to.
+    /// A value, and the type that is written beside it.
     Cast(Op, Typed, LLVMType),
     /// A block.
     Jump(Op, Name),
@@ -56,7 +57,7 @@ fn row(op: Op, operands: ShortList<Typed>, targets: ShortList<Name>) -> Inst
     })
 }
 
-/// One that takes a value to a type.
+/// One of a value, with a type beside it.
 fn cast(op: Op, x: Typed, ty: LLVMType) -> Inst
     ensures { result ≡ cast_of op x ty }
 {
@@ -96,6 +97,15 @@ impl Planned {
         }
     }
 
+    /// Of two operands, each of its own type.
+    pub fn two(op: Op, x: Typed, y: Typed) -> Planned
+        ensures { result ≡ row_of op (x ∷ y ∷ []) [] }
+    {
+        Planned {
+            shape: Shape::Two(op, x, y),
+        }
+    }
+
     /// Of three operands.
     pub fn three(op: Op, x: Typed, y: Typed, z: Typed) -> Planned
         ensures { result ≡ row_of op (x ∷ y ∷ z ∷ []) [] }
@@ -105,7 +115,7 @@ impl Planned {
         }
     }
 
-    /// One that takes a value to a type.
+    /// One of a value, with a type beside it.
     pub fn cast(op: Op, x: Typed, ty: LLVMType) -> Planned
         ensures { result ≡ cast_of op x ty }
     {
@@ -150,6 +160,7 @@ impl Planned {
             Shape::Alone(op) => row(*op, ShortList::zero(), ShortList::zero()),
             Shape::One(op, x) => row(*op, ShortList::one(*x), ShortList::zero()),
             Shape::Pair(op, ty, a, b) => row(*op, ShortList::two(Typed { ty: *ty, said: *a }, Typed { ty: *ty, said: *b }), ShortList::zero()),
+            Shape::Two(op, x, y) => row(*op, ShortList::two(*x, *y), ShortList::zero()),
             Shape::Three(op, x, y, z) => row(*op, ShortList::three(*x, *y, *z), ShortList::zero()),
             Shape::Cast(op, x, ty) => cast(*op, *x, *ty),
             Shape::Jump(op, to) => row(*op, ShortList::zero(), ShortList::one(*to)),

@@ -1,5 +1,6 @@
 //! The values of a text, as they stand on a stack: what is longer is a number of a store.
 
+use kinds::access::Align;
 use kinds::op::OverflowFlags;
 use kinds::types::StructLayout;
 use ll_lines::lines::{Brackets, Param, Said, SaidConst, Typed};
@@ -84,6 +85,8 @@ pub enum Value {
     Typed(Typed),
     /// An address space.
     Space(u32),
+    /// An alignment, or none where none is written.
+    Align(Option<Align>),
     /// Two values of one type.
     Pair(LLVMType, Said, Said),
     Entry(Entry),

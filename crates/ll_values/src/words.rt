@@ -4,9 +4,10 @@ ghost use Rattle.std.specs.Prelude.{◌≡◌, ◌≤◌, ◌-◌, ◌^◌, IfSo
 ghost use Rattle.std.specs.Option.{option_map};
 ghost use Rattle.kinds.specs.Types.{IntType};
 ghost use Rattle.ll_literals.specs.Numbers.{number_of, up_to};
-ghost use Rattle.ll_values.specs.Words.{binary_op, cast_op, three_op, predicate_of, fill_of, flat_tree, flat_type};
+ghost use Rattle.ll_values.specs.Words.{binary_op, cast_op, three_op, predicate_of, align_said, fill_of, flat_tree, flat_type};
 ghost use Rattle.ll_values.specs.Values.{int_type};
 
+use kinds::access::Align;
 use kinds::fill::Fill;
 use kinds::op::{LLVMIntPredicate, Op, OverflowFlags};
 use kinds::types::{Floating, OtherType};
@@ -147,6 +148,17 @@ pub fn space_of(text: &[u8]) -> Option<u32>
 {
     let space = number(text, MAX_SPACE)?;
     Some(space as u32)
+}
+
+/// The greatest alignment in bytes, 2^31.
+const MAX_ALIGN: u128 = 2_147_483_648;
+
+/// The alignment that digits say in bytes.
+pub fn align_said(text: &[u8]) -> Option<Align>
+    ensures { result ≡ align_said text.now }
+{
+    let bytes = number(text, MAX_ALIGN)?;
+    Align::of(bytes as u32)
 }
 
 /// The width of an integer type, of 1 to 2^23 bits.

@@ -1,16 +1,14 @@
 -- What the tokens of instructions and bodies say.
-use Rattle.std.proofs.Common.{◌≡◌, List, [], ◌∷◌, map, Option, Some, None, codes, refl, ap, subst}
+use Rattle.std.proofs.Common.{◌≡◌, List, [], ◌∷◌, map, Option, Some, None, codes, refl, ap}
 use Rattle.std.specs.List.{flat_map, AllByRecursion}
-use Rattle.std.proofs.lemmas.List.{append-nil}
 use Rattle.kinds.specs.Types.{TypeTree}
 use Rattle.kinds.specs.Held.{IsFirstClass}
 use Rattle.ll_lines.specs.Lines as L
 use Rattle.ll_lines.specs.Lines.{Text, Incoming, Inst, Line, Part}
-use Rattle.ll_spacing.specs.Spacing.{Spaced}
 use Rattle.ll_literals.specs.Chain.{◌>>=◌}
 use Rattle.ll_values.specs.Values.{EntryV, EntriesV, InstV, PartV, BodyV, Entry, incoming}
 use Rattle.ll_written.specs.Rules as N
-use Rattle.ll_written.specs.Written.{indent, written_entry, next_entry, written_row, written_inst, written_behind, written_line, written_part, next_part, written_body}
+use Rattle.ll_written.specs.Written.{indent, written_entry, next_entry, written_inst, written_behind, written_line, written_part, next_part, written_body}
 use Rattle.ll_written.specs.Writable.{IsIncoming, IsInst, IsLine, IsPart}
 use Rattle.ll_written.proofs.Productions as P
 use Rattle.ll_written.proofs.Productions.{Reads}
@@ -43,7 +41,7 @@ phi_says b τ (e ∷ es) h =
 
 pub inst_says : (b : Text) (i : Inst) → IsInst i → Reads N.inst (InstV i) (written_inst b i)
 inst_says b (L.Phi τ es) h = phi_says b τ es h
-inst_says b (L.Row r) h = subst (λ (xs : List Spaced). Reads N.inst (InstV (L.Row r)) xs) (append-nil (written_row b r)) (P.inst (row_says b r h) (P.attached_none) refl)
+inst_says b (L.Row r) h = row_says b r h
 
 line_by : (result : Option Text) (i : Inst) → IsInst i → Reads N.body_part (PartV (L.Does (record { result = result; inst = i }))) (written_behind result i)
 line_by None i h = P.body_part_bare (inst_says indent i h) refl

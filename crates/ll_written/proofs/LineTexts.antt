@@ -28,9 +28,9 @@ word_text b t = ap (λ (u : Text). u ++ codes " ") (append-nil (b ++ t)) ∙ app
 icmp_text : (b t : Text) → text_of (token b Word (codes "icmp") ∷ apart Word t ∷ []) ++ codes " " ≡ b ++ (codes "icmp " ++ t ++ codes " ")
 icmp_text b t = ap (λ (u : Text). b ++ codes "icmp" ++ u ++ codes " ") (append-nil (codes " " ++ t)) ∙ simp append_assoc
 
-zext_text : (b : Text) (nneg : Bool) → text_of (token b Word (codes "zext") ∷ written_flag (codes "nneg") nneg) ++ codes " " ≡ b ++ (codes "zext " ++ P.flag_text (codes "nneg") nneg)
-zext_text b nneg =
-    append_assoc (b ++ codes "zext") (text_of (written_flag (codes "nneg") nneg)) (codes " ") ∙ ap (λ (u : Text). b ++ codes "zext" ++ u) (flag_text (codes "nneg") nneg) ∙ simp append_assoc
+-- a word and a flag
+flag_head : (b t flag : Text) (set : Bool) → text_of (token b Word t ∷ written_flag flag set) ++ codes " " ≡ b ++ (t ++ codes " " ++ P.flag_text flag set)
+flag_head b t flag set = append_assoc (b ++ t) (text_of (written_flag flag set)) (codes " ") ∙ ap (λ (u : Text). b ++ t ++ u) (flag_text flag set) ∙ simp append_assoc
 
 head_text : (b : Text) (op : Op) → has_names op ≡ true → text_of (written_head b op) ++ codes " " ≡ b ++ P.row_head op
 head_text b (O.Add flags) named = flagged_text b (codes "add") flags
@@ -49,12 +49,15 @@ head_text b O.Xor named = word_text b (codes "xor")
 head_text b (O.ICmp p) named = icmp_text b (P.predicate_text p)
 head_text b O.Trunc named = word_text b (codes "trunc")
 head_text b O.SExt named = word_text b (codes "sext")
-head_text b (O.ZExt nneg) named = zext_text b nneg
+head_text b (O.ZExt nneg) named = flag_head b (codes "zext") (codes "nneg") nneg
 head_text b O.PtrToInt named = word_text b (codes "ptrtoint")
 head_text b O.IntToPtr named = word_text b (codes "inttoptr")
 head_text b O.AddrSpaceCast named = word_text b (codes "addrspacecast")
 head_text b O.Select named = word_text b (codes "select")
 head_text b O.Freeze named = word_text b (codes "freeze")
+head_text b (O.Load access) named = flag_head b (codes "load") (codes "volatile") access.volatile
+head_text b (O.Store access) named = flag_head b (codes "store") (codes "volatile") access.volatile
+head_text b O.VAArg named = word_text b (codes "va_arg")
 head_text b O.Br named = word_text b (codes "br")
 head_text b O.CondBr named = word_text b (codes "br")
 head_text b O.Ret named = word_text b (codes "ret")

@@ -452,6 +452,14 @@ pub inst_phi : {v v1 v2 v3 : Value} {x1 x2 x3 : List Spaced} (b0 : Text) → Rea
 inst_phi {v1} {v2} {v3} b0 h1 h2 h3 made_by =
     made llvm KINDS 82 340 (K.Typed T.Phi) {cs = v1 ∷ v2 ∷ v3 ∷ []} refl refl refl made_by (word llvm KINDS (token b0 Word (codes "phi")) C.word_phi (rule llvm KINDS h1 (rule llvm KINDS h2 (last llvm KINDS h3))))
 
+-- inst = 'load' load
+pub inst_load : {v1 : Value} {x1 : List Spaced} (b0 : Text) → Reads N.load v1 x1 → Reads N.inst v1 (token b0 Word (codes "load") ∷ x1)
+inst_load {v1} b0 h1 = made llvm KINDS 82 333 K.Same {cs = v1 ∷ []} refl refl refl refl (word llvm KINDS (token b0 Word (codes "load")) C.word_load (last llvm KINDS h1))
+
+-- inst = 'store' store
+pub inst_store : {v1 : Value} {x1 : List Spaced} (b0 : Text) → Reads N.store v1 x1 → Reads N.inst v1 (token b0 Word (codes "store") ∷ x1)
+inst_store {v1} b0 h1 = made llvm KINDS 82 334 K.Same {cs = v1 ∷ []} refl refl refl refl (word llvm KINDS (token b0 Word (codes "store")) C.word_store (last llvm KINDS h1))
+
 -- attached = nothing
 pub attached_none : Reads N.attached NoneV []
 attached_none = made llvm KINDS 147 495 K.Nothing {cs = []} refl refl refl refl (nothing llvm KINDS)
@@ -649,6 +657,42 @@ simple_three_select {v1} {v3} {v5} b0 b2 b4 h1 h3 h5 made_by =
 -- simple = 'freeze' typed
 pub simple_freeze : {v v1 : Value} {x1 : List Spaced} (b0 : Text) → Reads N.typed v1 x1 → value_by (K.Row R.Freeze) (v1 ∷ []) ≡ Some v → Reads N.simple v (token b0 Word (codes "freeze") ∷ x1)
 simple_freeze {v1} b0 h1 made_by = made llvm KINDS 83 361 (K.Row R.Freeze) {cs = v1 ∷ []} refl refl refl made_by (word llvm KINDS (token b0 Word (codes "freeze")) C.word_freeze (last llvm KINDS h1))
+
+-- simple = 'va_arg' typed ',' type
+pub simple_vaarg : {v v1 v3 : Value} {x1 x3 : List Spaced} (b0 b2 : Text) → Reads N.typed v1 x1 → Reads N.type v3 x3 → value_by (K.Row R.VAArg) (v1 ∷ v3 ∷ []) ≡ Some v → Reads N.simple v (token b0 Word (codes "va_arg") ∷ (x1 ++ (token b2 Comma (codes ",") ∷ x3)))
+simple_vaarg {v1} {v3} b0 b2 h1 h3 made_by =
+    made llvm KINDS 83 362 (K.Row R.VAArg) {cs = v1 ∷ v3 ∷ []} refl refl refl made_by (word llvm KINDS (token b0 Word (codes "va_arg")) C.word_va_arg (rule llvm KINDS h1 (word llvm KINDS (token b2 Comma (codes ",")) C.sign_comma (last llvm KINDS h3))))
+
+-- load = volatile type ',' typed align_attached
+pub load : {v v0 v1 v3 v4 : Value} {x0 x1 x3 x4 : List Spaced} (b2 : Text) → Reads N.volatile v0 x0 → Reads N.type v1 x1 → Reads N.typed v3 x3 → Reads N.align_attached v4 x4 → value_by (K.Row R.Load) (v0 ∷ v1 ∷ v3 ∷ v4 ∷ []) ≡ Some v → Reads N.load v (x0 ++ (x1 ++ (token b2 Comma (codes ",") ∷ (x3 ++ x4))))
+load {v0} {v1} {v3} {v4} b2 h0 h1 h3 h4 made_by =
+    made llvm KINDS 112 433 (K.Row R.Load) {cs = v0 ∷ v1 ∷ v3 ∷ v4 ∷ []} refl refl refl made_by (rule llvm KINDS h0 (rule llvm KINDS h1 (word llvm KINDS (token b2 Comma (codes ",")) C.sign_comma (rule llvm KINDS h3 (last llvm KINDS h4)))))
+
+-- store = volatile typed ',' typed align_attached
+pub store : {v v0 v1 v3 v4 : Value} {x0 x1 x3 x4 : List Spaced} (b2 : Text) → Reads N.volatile v0 x0 → Reads N.typed v1 x1 → Reads N.typed v3 x3 → Reads N.align_attached v4 x4 → value_by (K.Row R.Store) (v0 ∷ v1 ∷ v3 ∷ v4 ∷ []) ≡ Some v → Reads N.store v (x0 ++ (x1 ++ (token b2 Comma (codes ",") ∷ (x3 ++ x4))))
+store {v0} {v1} {v3} {v4} b2 h0 h1 h3 h4 made_by =
+    made llvm KINDS 114 436 (K.Row R.Store) {cs = v0 ∷ v1 ∷ v3 ∷ v4 ∷ []} refl refl refl made_by (rule llvm KINDS h0 (rule llvm KINDS h1 (word llvm KINDS (token b2 Comma (codes ",")) C.sign_comma (rule llvm KINDS h3 (last llvm KINDS h4)))))
+
+-- volatile = 'volatile'
+pub volatile_yes : (b0 : Text) → Reads N.volatile (FlagV true) (token b0 Word (codes "volatile") ∷ [])
+volatile_yes b0 = made llvm KINDS 116 439 K.Yes {cs = []} refl refl refl refl (word llvm KINDS (token b0 Word (codes "volatile")) C.word_volatile (nothing llvm KINDS))
+
+-- volatile = nothing
+pub volatile_no : Reads N.volatile (FlagV false) []
+volatile_no = made llvm KINDS 116 440 K.No {cs = []} refl refl refl refl (nothing llvm KINDS)
+
+-- align_attached = ',' align_or_attached
+pub align_attached_align_or_attached : {v1 : Value} {x1 : List Spaced} (b0 : Text) → Reads N.align_or_attached v1 x1 → Reads N.align_attached v1 (token b0 Comma (codes ",") ∷ x1)
+align_attached_align_or_attached {v1} b0 h1 = made llvm KINDS 134 471 K.Same {cs = v1 ∷ []} refl refl refl refl (word llvm KINDS (token b0 Comma (codes ",")) C.sign_comma (last llvm KINDS h1))
+
+-- align_attached = nothing
+pub align_attached_noalign : {v : Value} → value_by (K.Detail D.NoAlign) [] ≡ Some v → Reads N.align_attached v []
+align_attached_noalign made_by = made llvm KINDS 134 472 (K.Detail D.NoAlign) {cs = []} refl refl refl made_by (nothing llvm KINDS)
+
+-- align_or_attached = 'align' INT attached
+pub align_or_attached_align : {v v2 : Value} {x2 : List Spaced} (b0 b1 t1 : Text) → Reads N.attached v2 x2 → value_by (K.Detail D.Align) (TextV t1 ∷ v2 ∷ []) ≡ Some v → Reads N.align_or_attached v (token b0 Word (codes "align") ∷ token b1 Int t1 ∷ x2)
+align_or_attached_align {v2} b0 b1 t1 h2 made_by =
+    made llvm KINDS 135 473 (K.Detail D.Align) {cs = TextV t1 ∷ v2 ∷ []} refl refl refl made_by (word llvm KINDS (token b0 Word (codes "align")) C.word_align (leaf llvm KINDS (token b1 Int t1) (C.kind_int t1) (last llvm KINDS h2)))
 
 -- ret = 'void'
 pub ret_none : (b0 : Text) → Reads N.ret NoneV (token b0 Word (codes "void") ∷ [])

@@ -29,6 +29,9 @@ pub data IsPair : Option TypeTree → List Typed → List Text → Type 0 where
 pub data IsCast : Option TypeTree → List Typed → List Text → Type 0 where
   cast : (x : Typed) (τ : TypeTree) → IsTyped x → IsSayableType τ → IsCast (Some τ) (x ∷ []) []
 
+pub data IsTwo : Option TypeTree → List Typed → List Text → Type 0 where
+  two : (x y : Typed) → IsTyped x → IsTyped y → IsTwo None (x ∷ y ∷ []) []
+
 pub data IsThree : Option TypeTree → List Typed → List Text → Type 0 where
   three : (x y z : Typed) → IsTyped x → IsTyped y → IsTyped z → IsThree None (x ∷ y ∷ z ∷ []) []
 
@@ -65,6 +68,14 @@ cast_form by None os ts fits count leads type all = absurd cc
 cast_form by (Some τ) [] ts fits count leads type all = absurd (omega arith)
 cast_form by (Some τ) (x ∷ y ∷ os) ts fits count leads type all = absurd (omega arith)
 cast_form by (Some τ) (x ∷ []) (t ∷ ts) fits count leads type all = absurd (omega arith)
+
+pub two_form : (w : Option TypeTree) (os : List Typed) (ts : List Text) (b : Bool) → (is_no_type laned same_tree w && b) ≡ true → length os ≡ 2 → length ts ≡ 0 → AllByRecursion IsTyped os → IsTwo w os ts
+two_form None (x ∷ y ∷ []) [] b fits count leads all = two x y all.0 all.1.0
+two_form (Some τ) os ts b fits count leads all = absurd cc
+two_form None [] ts b fits count leads all = absurd (omega arith)
+two_form None (x ∷ []) ts b fits count leads all = absurd (omega arith)
+two_form None (x ∷ y ∷ z ∷ os) ts b fits count leads all = absurd (omega arith)
+two_form None (x ∷ y ∷ []) (t ∷ ts) b fits count leads all = absurd (omega arith)
 
 pub three_form : (w : Option TypeTree) (os : List Typed) (ts : List Text) (b : Bool) → (is_no_type laned same_tree w && b) ≡ true → length os ≡ 3 → length ts ≡ 0 → AllByRecursion IsTyped os → IsThree w os ts
 three_form None (x ∷ y ∷ z ∷ []) [] b fits count leads all = three x y z all.0 all.1.0 all.1.1.0

@@ -1,5 +1,12 @@
 -- What the tokens of rows say.
-use Rattle.std.proofs.Common.{◌≡◌, Bool, true, false, List, [], ◌∷◌, ◌++◌, Option, Some, codes, refl, ap}
+use Rattle.std.proofs.Common.{◌≡◌, Bool, true, false, List, [], ◌∷◌, ◌++◌, Option, Some, None, codes, append_assoc, refl, sym, ap, subst}
+use Rattle.std.specs.Prelude.{decimal}
+use Rattle.std.specs.Option.{option_map}
+use Rattle.std.proofs.lemmas.List.{append-nil}
+use Rattle.kinds.specs.declared.access.Align.{Align}
+use Rattle.kinds.specs.declared.access.Access.{Access}
+use Rattle.kinds.specs.Access.{bytes_of}
+use Rattle.kinds.proofs.AccessLaws.{few_bytes, most_bytes, align_back}
 use Rattle.kinds.specs.declared.op.LLVMIntPredicate.{LLVMIntPredicate}
 use Rattle.kinds.specs.declared.op.LLVMIntPredicate.TheVariants as I
 use Rattle.kinds.specs.declared.op.OverflowFlags.{OverflowFlags}
@@ -15,17 +22,18 @@ use Rattle.ll_literals.specs.Chain.{◌>>=◌}
 use Rattle.ll_spacing.specs.Spacing.{Spaced}
 use Rattle.ll_values.specs.declared.form.Kind.TheVariants as K
 use Rattle.ll_values.specs.declared.form.RowKind.TheVariants as R
-use Rattle.ll_values.specs.Values.{Value, NoneV, TextV, FlagV, WrapsV, InstV, row, cast as cast_of, value_by}
-use Rattle.ll_values.specs.Words.{binary_op, cast_op, predicate_of, no_wraps}
+use Rattle.ll_said.proofs.DecimalLaws.{IsDecimal-decimal}
+use Rattle.ll_values.specs.Values.{Value, NoneV, TextV, FlagV, WrapsV, AlignV, InstV, row, cast as cast_of, value_by}
+use Rattle.ll_values.specs.Words.{binary_op, cast_op, predicate_of, align_said, no_wraps}
 use Rattle.ll_written.specs.Printing.{predicate_text}
 use Rattle.ll_written.specs.Rules as N
-use Rattle.ll_written.specs.Written.{token, word, written_operands, written_values, written_returned, written_targets, written_to, written_flag, written_wraps, written_row, comma}
+use Rattle.ll_written.specs.Written.{token, word, written_typed, written_operands, written_values, written_returned, written_targets, written_to, written_before, written_after, written_align, written_flag, written_wraps, written_row, comma}
 use Rattle.ll_written.specs.Writable.{IsRow}
 use Rattle.ll_written.proofs.Productions as P
 use Rattle.ll_written.proofs.Productions.{Reads}
 use Rattle.ll_written.proofs.TypeTokens.{type_says}
 use Rattle.ll_written.proofs.ValueSays.{alone, typed_says, operand_says, returned_says, pair_says}
-use Rattle.ll_written.proofs.RowForms.{IsPair, pair, pair_form, IsCast, cast, cast_form, IsThree, three, three_form, IsOne, one, one_form, IsJump, jump, jump_form, IsBranch, branch, branch_form, IsReturn, no_value, value, return_form, IsBare, bare, bare_form}
+use Rattle.ll_written.proofs.RowForms.{IsPair, pair, pair_form, IsCast, cast, cast_form, IsTwo, two, two_form, IsThree, three, three_form, IsOne, one, one_form, IsJump, jump, jump_form, IsBranch, branch, branch_form, IsReturn, no_value, value, return_form, IsBare, bare, bare_form}
 
 abbrev row_line : Op → Option TypeTree → List Typed → List Text → RowLine
 row_line op wr os ts = record { op = op; written = wr; operands = os; targets = ts }
@@ -63,6 +71,17 @@ wraps_says flags = wraps_by flags.nuw flags.nsw
 nneg_says : (b : Bool) → Reads N.nneg (FlagV b) (written_flag (codes "nneg") b)
 nneg_says true = P.nneg_yes (codes " ")
 nneg_says false = P.nneg_no
+
+volatile_says : (b : Bool) → Reads N.volatile (FlagV b) (written_flag (codes "volatile") b)
+volatile_says true = P.volatile_yes (codes " ")
+volatile_says false = P.volatile_no
+
+align_again : (a : Align) → align_said (decimal (bytes_of a)) ≡ Some a
+align_again a = rw ((IsDecimal-decimal (bytes_of a) (few_bytes a)).number, most_bytes a) (align_back a)
+
+align_says : (a : Option Align) → Reads N.align_attached (AlignV a) (written_align a)
+align_says None = P.align_attached_noalign refl
+align_says (Some a) = P.align_attached_align_or_attached [] (P.align_or_attached_align (codes " ") (codes " ") (decimal (bytes_of a)) P.attached_none (ap (option_map (λ (b : Align). AlignV (Some b))) (align_again a)))
 
 -- ---- rows by their form
 
@@ -134,35 +153,59 @@ return_row b _ _ _ (value x h) = P.simple_return b (returned_says x h) refl
 bare_row : (b : Text) (wr : Option TypeTree) (os : List Typed) (ts : List Text) → IsBare wr os ts → Reads N.simple (says O.Unreachable wr os ts) (token b T.Word (codes "unreachable") ∷ [])
 bare_row b _ _ _ bare = P.simple_unreachable b refl
 
+two_values : (x y : Typed) (zs : List Spaced) → written_typed x ++ (comma ∷ (written_operands (y ∷ []) ++ zs)) ≡ written_values (x ∷ y ∷ []) ++ zs
+two_values x y zs = sym (append_assoc (written_typed x) (comma ∷ written_operands (y ∷ [])) zs)
+
+load_row : (b : Text) (access : Access) (wr : Option TypeTree) (os : List Typed) (ts : List Text) → IsCast wr os ts
+    → Reads N.inst (says (O.Load access) wr os ts) (token b T.Word (codes "load") ∷ (written_flag (codes "volatile") access.volatile ++ written_before wr (written_values os ++ written_align access.align)))
+load_row b access _ _ _ (cast x τ h type) = P.inst_load b (P.load [] (volatile_says access.volatile) (type_says (codes " ") τ type) (operand_says x h) (align_says access.align) refl)
+
+store_row : (b : Text) (access : Access) (wr : Option TypeTree) (os : List Typed) (ts : List Text) → IsTwo wr os ts
+    → Reads N.inst (says (O.Store access) wr os ts) (token b T.Word (codes "store") ∷ (written_flag (codes "volatile") access.volatile ++ (written_values os ++ written_align access.align)))
+store_row b access _ _ _ (two x y h k) =
+    let tokens = ap (λ (xs : List Spaced). token b T.Word (codes "store") ∷ (written_flag (codes "volatile") access.volatile ++ xs)) (two_values x y (written_align access.align)) in
+    subst (λ (xs : List Spaced). Reads N.inst (says (O.Store access) None (x ∷ y ∷ []) []) xs) tokens
+    (P.inst_store b (P.store [] (volatile_says access.volatile) (typed_says x h) (operand_says y k) (align_says access.align) refl))
+
+va_arg_row : (b : Text) (wr : Option TypeTree) (os : List Typed) (ts : List Text) → IsCast wr os ts → Reads N.simple (says O.VAArg wr os ts) (token b T.Word (codes "va_arg") ∷ (written_operands os ++ written_after wr))
+va_arg_row b _ _ _ (cast x τ h type) = P.simple_vaarg b [] (operand_says x h) (type_says (codes " ") τ type) refl
+
 -- ---- a line for each row of the table
 
-row_by : (b : Text) (op : Op) (wr : Option TypeTree) (os : List Typed) (ts : List Text) → IsRow (row_line op wr os ts) → Reads N.simple (says op wr os ts) (written_row b (row_line op wr os ts))
-row_by b (O.Add flags) wr os ts h = sum_row b (codes "add") (O.Add flags) flags wr os ts (λ v w xs. P.simple_sum_add b) refl (pair_form F.Number wr os ts h.fits h.count h.leads h.operands)
-row_by b (O.Sub flags) wr os ts h = sum_row b (codes "sub") (O.Sub flags) flags wr os ts (λ v w xs. P.simple_sum_sub b) refl (pair_form F.Number wr os ts h.fits h.count h.leads h.operands)
-row_by b (O.Mul flags) wr os ts h = sum_row b (codes "mul") (O.Mul flags) flags wr os ts (λ v w xs. P.simple_sum_mul b) refl (pair_form F.Number wr os ts h.fits h.count h.leads h.operands)
-row_by b (O.Shl flags) wr os ts h = sum_row b (codes "shl") (O.Shl flags) flags wr os ts (λ v w xs. P.simple_sum_shl b) refl (pair_form F.Number wr os ts h.fits h.count h.leads h.operands)
-row_by b O.UDiv wr os ts h = quotient_row b (codes "udiv") O.UDiv wr os ts (λ v w xs. P.simple_quotient_udiv b) refl (pair_form F.Number wr os ts h.fits h.count h.leads h.operands)
-row_by b O.SDiv wr os ts h = quotient_row b (codes "sdiv") O.SDiv wr os ts (λ v w xs. P.simple_quotient_sdiv b) refl (pair_form F.Number wr os ts h.fits h.count h.leads h.operands)
-row_by b O.URem wr os ts h = bits_row b (codes "urem") O.URem wr os ts (λ v w xs. P.simple_bits_urem b) refl (pair_form F.Number wr os ts h.fits h.count h.leads h.operands)
-row_by b O.SRem wr os ts h = bits_row b (codes "srem") O.SRem wr os ts (λ v w xs. P.simple_bits_srem b) refl (pair_form F.Number wr os ts h.fits h.count h.leads h.operands)
-row_by b O.LShr wr os ts h = quotient_row b (codes "lshr") O.LShr wr os ts (λ v w xs. P.simple_quotient_lshr b) refl (pair_form F.Number wr os ts h.fits h.count h.leads h.operands)
-row_by b O.AShr wr os ts h = quotient_row b (codes "ashr") O.AShr wr os ts (λ v w xs. P.simple_quotient_ashr b) refl (pair_form F.Number wr os ts h.fits h.count h.leads h.operands)
-row_by b O.And wr os ts h = bits_row b (codes "and") O.And wr os ts (λ v w xs. P.simple_bits_and b) refl (pair_form F.Number wr os ts h.fits h.count h.leads h.operands)
-row_by b O.Or wr os ts h = or_row b wr os ts (pair_form F.Number wr os ts h.fits h.count h.leads h.operands)
-row_by b O.Xor wr os ts h = bits_row b (codes "xor") O.Xor wr os ts (λ v w xs. P.simple_bits_xor b) refl (pair_form F.Number wr os ts h.fits h.count h.leads h.operands)
-row_by b (O.ICmp p) wr os ts h = icmp_row b p wr os ts (pair_form F.Comparable wr os ts h.fits h.count h.leads h.operands)
-row_by b O.Trunc wr os ts h = trunc_row b wr os ts (cast_form (F.Cast Cs.ToNarrower) wr os ts h.fits h.count h.leads h.written h.operands)
-row_by b O.SExt wr os ts h = cast_row b (codes "sext") O.SExt wr os ts (λ v v1 v3 x1 x3 b2. P.simple_cast_sext b b2) refl (cast_form (F.Cast Cs.ToWider) wr os ts h.fits h.count h.leads h.written h.operands)
-row_by b (O.ZExt nneg) wr os ts h = zext_row b nneg wr os ts (cast_form (F.Cast Cs.ToWider) wr os ts h.fits h.count h.leads h.written h.operands)
-row_by b O.PtrToInt wr os ts h = cast_row b (codes "ptrtoint") O.PtrToInt wr os ts (λ v v1 v3 x1 x3 b2. P.simple_cast_ptrtoint b b2) refl (cast_form (F.Cast Cs.ToNumber) wr os ts h.fits h.count h.leads h.written h.operands)
-row_by b O.IntToPtr wr os ts h = cast_row b (codes "inttoptr") O.IntToPtr wr os ts (λ v v1 v3 x1 x3 b2. P.simple_cast_inttoptr b b2) refl (cast_form (F.Cast Cs.ToPointer) wr os ts h.fits h.count h.leads h.written h.operands)
-row_by b O.AddrSpaceCast wr os ts h = cast_row b (codes "addrspacecast") O.AddrSpaceCast wr os ts (λ v v1 v3 x1 x3 b2. P.simple_cast_addrspacecast b b2) refl (cast_form (F.Cast Cs.ToSpace) wr os ts h.fits h.count h.leads h.written h.operands)
-row_by b O.Select wr os ts h = select_row b wr os ts (three_form wr os ts _ h.fits h.count h.leads h.operands)
-row_by b O.Freeze wr os ts h = freeze_row b wr os ts (one_form wr os ts _ h.fits h.count h.leads h.operands)
-row_by b O.Br wr os ts h = jump_row b wr os ts (jump_form wr os ts _ h.fits h.count h.leads)
-row_by b O.CondBr wr os ts h = branch_row b wr os ts (branch_form wr os ts _ h.fits h.count h.leads h.operands)
-row_by b O.Ret wr os ts h = return_row b wr os ts (return_form wr os ts _ h.void h.fits h.count h.leads h.operands)
-row_by b O.Unreachable wr os ts h = bare_row b wr os ts (bare_form wr os ts _ h.fits h.count h.leads)
+-- what most rows are read by, with nothing attached
+simply : {i : L.Inst} {xs : List Spaced} → Reads N.simple (InstV i) xs → Reads N.inst (InstV i) xs
+simply {i} {xs} h = subst (λ (ys : List Spaced). Reads N.inst (InstV i) ys) (append-nil xs) (P.inst h P.attached_none refl)
 
-pub row_says : (b : Text) (r : RowLine) → IsRow r → Reads N.simple (InstV (L.Row r)) (written_row b r)
+row_by : (b : Text) (op : Op) (wr : Option TypeTree) (os : List Typed) (ts : List Text) → IsRow (row_line op wr os ts) → Reads N.inst (says op wr os ts) (written_row b (row_line op wr os ts))
+row_by b (O.Add flags) wr os ts h = simply (sum_row b (codes "add") (O.Add flags) flags wr os ts (λ v w xs. P.simple_sum_add b) refl (pair_form F.Number wr os ts h.fits h.count h.leads h.operands))
+row_by b (O.Sub flags) wr os ts h = simply (sum_row b (codes "sub") (O.Sub flags) flags wr os ts (λ v w xs. P.simple_sum_sub b) refl (pair_form F.Number wr os ts h.fits h.count h.leads h.operands))
+row_by b (O.Mul flags) wr os ts h = simply (sum_row b (codes "mul") (O.Mul flags) flags wr os ts (λ v w xs. P.simple_sum_mul b) refl (pair_form F.Number wr os ts h.fits h.count h.leads h.operands))
+row_by b (O.Shl flags) wr os ts h = simply (sum_row b (codes "shl") (O.Shl flags) flags wr os ts (λ v w xs. P.simple_sum_shl b) refl (pair_form F.Number wr os ts h.fits h.count h.leads h.operands))
+row_by b O.UDiv wr os ts h = simply (quotient_row b (codes "udiv") O.UDiv wr os ts (λ v w xs. P.simple_quotient_udiv b) refl (pair_form F.Number wr os ts h.fits h.count h.leads h.operands))
+row_by b O.SDiv wr os ts h = simply (quotient_row b (codes "sdiv") O.SDiv wr os ts (λ v w xs. P.simple_quotient_sdiv b) refl (pair_form F.Number wr os ts h.fits h.count h.leads h.operands))
+row_by b O.URem wr os ts h = simply (bits_row b (codes "urem") O.URem wr os ts (λ v w xs. P.simple_bits_urem b) refl (pair_form F.Number wr os ts h.fits h.count h.leads h.operands))
+row_by b O.SRem wr os ts h = simply (bits_row b (codes "srem") O.SRem wr os ts (λ v w xs. P.simple_bits_srem b) refl (pair_form F.Number wr os ts h.fits h.count h.leads h.operands))
+row_by b O.LShr wr os ts h = simply (quotient_row b (codes "lshr") O.LShr wr os ts (λ v w xs. P.simple_quotient_lshr b) refl (pair_form F.Number wr os ts h.fits h.count h.leads h.operands))
+row_by b O.AShr wr os ts h = simply (quotient_row b (codes "ashr") O.AShr wr os ts (λ v w xs. P.simple_quotient_ashr b) refl (pair_form F.Number wr os ts h.fits h.count h.leads h.operands))
+row_by b O.And wr os ts h = simply (bits_row b (codes "and") O.And wr os ts (λ v w xs. P.simple_bits_and b) refl (pair_form F.Number wr os ts h.fits h.count h.leads h.operands))
+row_by b O.Or wr os ts h = simply (or_row b wr os ts (pair_form F.Number wr os ts h.fits h.count h.leads h.operands))
+row_by b O.Xor wr os ts h = simply (bits_row b (codes "xor") O.Xor wr os ts (λ v w xs. P.simple_bits_xor b) refl (pair_form F.Number wr os ts h.fits h.count h.leads h.operands))
+row_by b (O.ICmp p) wr os ts h = simply (icmp_row b p wr os ts (pair_form F.Comparable wr os ts h.fits h.count h.leads h.operands))
+row_by b O.Trunc wr os ts h = simply (trunc_row b wr os ts (cast_form (F.Cast Cs.ToNarrower) wr os ts h.fits h.count h.leads h.written h.operands))
+row_by b O.SExt wr os ts h = simply (cast_row b (codes "sext") O.SExt wr os ts (λ v v1 v3 x1 x3 b2. P.simple_cast_sext b b2) refl (cast_form (F.Cast Cs.ToWider) wr os ts h.fits h.count h.leads h.written h.operands))
+row_by b (O.ZExt nneg) wr os ts h = simply (zext_row b nneg wr os ts (cast_form (F.Cast Cs.ToWider) wr os ts h.fits h.count h.leads h.written h.operands))
+row_by b O.PtrToInt wr os ts h = simply (cast_row b (codes "ptrtoint") O.PtrToInt wr os ts (λ v v1 v3 x1 x3 b2. P.simple_cast_ptrtoint b b2) refl (cast_form (F.Cast Cs.ToNumber) wr os ts h.fits h.count h.leads h.written h.operands))
+row_by b O.IntToPtr wr os ts h = simply (cast_row b (codes "inttoptr") O.IntToPtr wr os ts (λ v v1 v3 x1 x3 b2. P.simple_cast_inttoptr b b2) refl (cast_form (F.Cast Cs.ToPointer) wr os ts h.fits h.count h.leads h.written h.operands))
+row_by b O.AddrSpaceCast wr os ts h = simply (cast_row b (codes "addrspacecast") O.AddrSpaceCast wr os ts (λ v v1 v3 x1 x3 b2. P.simple_cast_addrspacecast b b2) refl (cast_form (F.Cast Cs.ToSpace) wr os ts h.fits h.count h.leads h.written h.operands))
+row_by b O.Select wr os ts h = simply (select_row b wr os ts (three_form wr os ts _ h.fits h.count h.leads h.operands))
+row_by b O.Freeze wr os ts h = simply (freeze_row b wr os ts (one_form wr os ts _ h.fits h.count h.leads h.operands))
+row_by b (O.Load access) wr os ts h = load_row b access wr os ts (cast_form F.Place wr os ts h.fits h.count h.leads h.written h.operands)
+row_by b (O.Store access) wr os ts h = store_row b access wr os ts (two_form wr os ts _ h.fits h.count h.leads h.operands)
+row_by b O.VAArg wr os ts h = simply (va_arg_row b wr os ts (cast_form F.Address wr os ts h.fits h.count h.leads h.written h.operands))
+row_by b O.Br wr os ts h = simply (jump_row b wr os ts (jump_form wr os ts _ h.fits h.count h.leads))
+row_by b O.CondBr wr os ts h = simply (branch_row b wr os ts (branch_form wr os ts _ h.fits h.count h.leads h.operands))
+row_by b O.Ret wr os ts h = simply (return_row b wr os ts (return_form wr os ts _ h.void h.fits h.count h.leads h.operands))
+row_by b O.Unreachable wr os ts h = simply (bare_row b wr os ts (bare_form wr os ts _ h.fits h.count h.leads))
+
+pub row_says : (b : Text) (r : RowLine) → IsRow r → Reads N.inst (InstV (L.Row r)) (written_row b r)
 row_says b r h = row_by b r.op r.written r.operands r.targets h

@@ -1,7 +1,10 @@
 -- The text of the tokens of a row is what is printed of the row.
 use Rattle.std.proofs.Common.{◌≡◌, ◌≤◌, ℕ, Bool, true, false, List, [], ◌∷◌, ◌++◌, length, map, Option, Some, None, codes, append_assoc, refl, sym, ap, ◌∙◌, arith}
+use Rattle.std.specs.Prelude.{decimal}
 use Rattle.std.specs.List.{flat_map}
 use Rattle.std.proofs.lemmas.List.{append-nil}
+use Rattle.kinds.specs.declared.access.Align.{Align}
+use Rattle.kinds.specs.Access.{bytes_of}
 use Rattle.kinds.specs.declared.op.OverflowFlags.{OverflowFlags}
 use Rattle.kinds.specs.declared.op.Op.{Op}
 use Rattle.kinds.specs.declared.op.Op.TheVariants as O
@@ -15,7 +18,7 @@ use Rattle.ll_said.specs.Said.{said_const, said_of, typed_of, row_of}
 use Rattle.ll_spacing.specs.Spacing.{Spaced, text_of}
 use Rattle.ll_tokens.specs.declared.kinds.Kind.TheVariants.{Word}
 use Rattle.ll_written.specs.Printing as P
-use Rattle.ll_written.specs.Written.{token, comma, written_said, written_typed, next_said, written_operands, next_typed, written_values, written_returned, written_target, next_target, written_targets, written_to, written_flag, written_wraps, written_names}
+use Rattle.ll_written.specs.Written.{token, comma, written_said, written_typed, next_said, written_operands, next_typed, written_values, written_returned, written_target, next_target, written_targets, written_to, written_before, written_after, written_align, written_flag, written_wraps, written_names}
 use Rattle.ll_written.proofs.ConstTokens.{type_then, const_written}
 use Rattle.ll_written.proofs.TypeTokens.{text_both, type_written}
 
@@ -94,6 +97,29 @@ module _ (structs : List Struct) (f : Function) where
   most_text : (w : Option TypeTree) (os : List Operand) → 1 ≤ length os → text_of (written_operands (map (typed_of structs f) os) ++ written_to w) ≡ codes " " ++ (P.operands_text structs f os ++ P.to_text w)
   most_text w os some = joined (written_operands (map (typed_of structs f) os)) (written_to w) (codes " " ++ P.operands_text structs f os) (P.to_text w) (operands_text os some) (to_text w)
 
+  -- behind a type, where one is written
+  before_text : (w : Option TypeTree) (xs : List Spaced) (t : Text) → text_of xs ≡ codes " " ++ t → text_of (written_before w xs) ≡ codes " " ++ (P.before_text w ++ t)
+  before_text None xs t e = e
+  before_text (Some τ) xs t e = type_then (codes " ") τ (comma ∷ xs) ∙ ap (λ (u : Text). codes " " ++ P.type_text τ ++ (codes "," ++ u)) e ∙ simp append_assoc
+
+  after_text : (w : Option TypeTree) → text_of (written_after w) ≡ P.after_text w
+  after_text None = refl
+  after_text (Some τ) = ap (λ (t : Text). codes "," ++ t) (type_written (codes " ") τ)
+
+  align_text : (a : Option Align) → text_of (written_align a) ≡ P.align_text a
+  align_text None = refl
+  align_text (Some a) = ap (λ (t : Text). codes ", align " ++ t) (append-nil (decimal (bytes_of a)))
+
+  aligned_text : (os : List Operand) (a : Option Align) → 1 ≤ length os → text_of (written_values (map (typed_of structs f) os) ++ written_align a) ≡ codes " " ++ (P.values_text structs f os ++ P.align_text a)
+  aligned_text os a some = joined (written_values (map (typed_of structs f) os)) (written_align a) (codes " " ++ P.values_text structs f os) (P.align_text a) (values_text os some) (align_text a)
+
+  loaded_text : (w : Option TypeTree) (os : List Operand) (a : Option Align) → 1 ≤ length os
+      → text_of (written_before w (written_values (map (typed_of structs f) os) ++ written_align a)) ≡ codes " " ++ (P.before_text w ++ (P.values_text structs f os ++ P.align_text a))
+  loaded_text w os a some = before_text w (written_values (map (typed_of structs f) os) ++ written_align a) (P.values_text structs f os ++ P.align_text a) (aligned_text os a some)
+
+  behind_text : (w : Option TypeTree) (os : List Operand) → 1 ≤ length os → text_of (written_operands (map (typed_of structs f) os) ++ written_after w) ≡ codes " " ++ (P.operands_text structs f os ++ P.after_text w)
+  behind_text w os some = joined (written_operands (map (typed_of structs f) os)) (written_after w) (codes " " ++ P.operands_text structs f os) (P.after_text w) (operands_text os some) (after_text w)
+
   branch_text : (os : List Operand) (ts : List ℕ) → 1 ≤ length os → 1 ≤ length ts
       → text_of (written_operands (map (typed_of structs f) os) ++ (comma ∷ written_targets (map (block_ref f) ts))) ≡ codes " " ++ (P.operands_text structs f os ++ codes ", " ++ P.targets_text f ts)
   branch_text os ts some leads =
@@ -125,6 +151,9 @@ module _ (structs : List Struct) (f : Function) where
   names_text O.AddrSpaceCast v w os ts count leads named = most_text w os (omega (arith, count))
   names_text O.Select v w os ts count leads named = values_text os (omega (arith, count))
   names_text O.Freeze v w os ts count leads named = most_text w os (omega (arith, count))
+  names_text (O.Load access) v w os ts count leads named = loaded_text w os access.align (omega (arith, count))
+  names_text (O.Store access) v w os ts count leads named = aligned_text os access.align (omega (arith, count))
+  names_text O.VAArg v w os ts count leads named = behind_text w os (omega (arith, count))
   names_text O.Br v w os ts count leads named = targets_text ts (omega (arith, leads))
   names_text O.CondBr v w os ts count leads named = branch_text os ts (omega (arith, count)) (omega (arith, leads))
   names_text O.Ret v w os ts count leads named = returned_text os

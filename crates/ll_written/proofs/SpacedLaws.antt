@@ -20,7 +20,7 @@ use Rattle.ll_written.specs.Written.{token, apart, close, comma}
 use Rattle.ll_written.specs.Writable.{IsLocal, IsRow, IsIncoming, IsInst, IsPart, IsParam, IsFunction, IsBody, IsStruct, IsWritable}
 use Rattle.ll_written.proofs.FreeLaws.{AreFree, none_free, then_free, one_free, both_free, each_free, spaced_then, gap_free, apart_free, word_whole, word_free, sign_free, sign_close, comma_free}
 use Rattle.ll_written.proofs.TypeTokens.{result_free, type_free, type_opened}
-use Rattle.ll_written.proofs.SpacedParts.{said_free, operands_free, values_free, returned_free, targets_free, to_free, head_free, first_free}
+use Rattle.ll_written.proofs.SpacedParts.{said_free, operands_free, values_free, returned_free, targets_free, to_free, before_free, after_free, align_free, head_free, first_free}
 
 -- ---- instructions
 
@@ -29,6 +29,9 @@ most_free r h = both_free (W.written_operands r.operands) (W.written_to r.writte
 
 names_free : (op : Op) (r : RowLine) → IsRow r → AreFree (W.written_names op r)
 names_free O.Select r h = values_free r.operands h.operands
+names_free (O.Load access) r h = before_free r.written (W.written_values r.operands ++ W.written_align access.align) h.written (both_free (W.written_values r.operands) (W.written_align access.align) (values_free r.operands h.operands) (align_free access.align))
+names_free (O.Store access) r h = both_free (W.written_values r.operands) (W.written_align access.align) (values_free r.operands h.operands) (align_free access.align)
+names_free O.VAArg r h = both_free (W.written_operands r.operands) (W.written_after r.written) (operands_free r.operands h.operands) (after_free r.written h.written)
 names_free O.Br r h = targets_free r.targets h.targets
 names_free O.CondBr r h = both_free (W.written_operands r.operands) (comma ∷ W.written_targets r.targets) (operands_free r.operands h.operands) (then_free comma_free (targets_free r.targets h.targets))
 names_free O.Ret r h = returned_free r.operands h.operands

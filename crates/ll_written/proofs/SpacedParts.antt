@@ -1,7 +1,10 @@
 -- The tokens of what a text says are well spaced.
 use Rattle.std.proofs.Common.{◌≡◌, ℕ, Bool, true, false, List, [], ◌∷◌, Option, Some, None, codes, refl}
-use Rattle.std.specs.Prelude.{IfSome}
+use Rattle.std.specs.Prelude.{IfSome, decimal}
 use Rattle.std.specs.List.{flat_map, AllByRecursion}
+use Rattle.kinds.specs.declared.access.Align.{Align}
+use Rattle.kinds.specs.Access.{bytes_of}
+use Rattle.kinds.proofs.AccessLaws.{few_bytes}
 use Rattle.kinds.specs.declared.op.LLVMIntPredicate.{LLVMIntPredicate}
 use Rattle.kinds.specs.declared.op.LLVMIntPredicate.TheVariants as I
 use Rattle.kinds.specs.declared.op.OverflowFlags.{OverflowFlags}
@@ -11,14 +14,15 @@ use Rattle.kinds.specs.Types.{TypeTree}
 use Rattle.ll_lines.specs.Lines as L
 use Rattle.ll_lines.specs.Lines.{Text, Said, Typed}
 use Rattle.ll_spacing.specs.Forms.{is_word}
-use Rattle.ll_spacing.specs.Spacing.{AreBlanks}
+use Rattle.ll_spacing.specs.Spacing.{Spaced, AreBlanks}
 use Rattle.ll_tokens.specs.declared.kinds.Kind.TheVariants as T
 use Rattle.ll_written.specs.Printing.{predicate_text}
 use Rattle.ll_written.specs.Written as W
-use Rattle.ll_written.specs.Written.{token, word}
+use Rattle.ll_written.specs.Written.{token, word, comma}
 use Rattle.ll_written.specs.Writable.{IsSayableType, IsLocal, IsSaidOf, IsTyped}
 use Rattle.ll_written.proofs.FreeLaws.{AreFree, IsFree, none_free, then_free, one_free, both_free, each_free, gap_free, apart_free, word_whole, word_free, comma_free}
 use Rattle.ll_written.proofs.ConstTokens.{const_free}
+use Rattle.ll_written.proofs.NumberForms.{decimal_text}
 use Rattle.ll_written.proofs.TypeTokens.{type_free}
 
 -- ---- values
@@ -56,6 +60,18 @@ targets_free (t ∷ ts) all = both_free (W.written_target t) (flat_map W.next_ta
 pub to_free : (w : Option TypeTree) → IfSome w IsSayableType → AreFree (W.written_to w)
 to_free None h = none_free
 to_free (Some τ) h = then_free (word_free (codes "to") refl) (type_free τ h)
+
+pub before_free : (w : Option TypeTree) (xs : List Spaced) → IfSome w IsSayableType → AreFree xs → AreFree (W.written_before w xs)
+before_free None xs h free = free
+before_free (Some τ) xs h free = both_free (W.written_type (codes " ") τ) (comma ∷ xs) (type_free τ h) (then_free comma_free free)
+
+pub after_free : (w : Option TypeTree) → IfSome w IsSayableType → AreFree (W.written_after w)
+after_free None h = none_free
+after_free (Some τ) h = then_free comma_free (type_free τ h)
+
+pub align_free : (a : Option Align) → AreFree (W.written_align a)
+align_free None = none_free
+align_free (Some a) = then_free comma_free (then_free (word_free (codes "align") refl) (one_free (apart_free T.Int (decimal (bytes_of a)) (decimal_text (bytes_of a) (few_bytes a)))))
 
 flag_free : (t : Text) (b : Bool) → is_word t ≡ true → AreFree (W.written_flag t b)
 flag_free t false e = none_free
@@ -104,6 +120,9 @@ module _ (b : ℕ) (bs : Text) (blanks : AreBlanks (b ∷ bs)) where
   head_free O.AddrSpaceCast = one_free (first_free (codes "addrspacecast") refl)
   head_free O.Select = one_free (first_free (codes "select") refl)
   head_free O.Freeze = one_free (first_free (codes "freeze") refl)
+  head_free (O.Load access) = then_free (first_free (codes "load") refl) (flag_free (codes "volatile") access.volatile refl)
+  head_free (O.Store access) = then_free (first_free (codes "store") refl) (flag_free (codes "volatile") access.volatile refl)
+  head_free O.VAArg = one_free (first_free (codes "va_arg") refl)
   head_free O.Br = one_free (first_free (codes "br") refl)
   head_free O.CondBr = one_free (first_free (codes "br") refl)
   head_free O.Ret = one_free (first_free (codes "ret") refl)

@@ -85,6 +85,9 @@ word_class t c found = ap (λ (o : Option ℕ). unwrap_or o (other_word t)) foun
 pub word_addrspace : llvm_class Word (codes "addrspace") ≡ 63
 word_addrspace = word_class (codes "addrspace") 63 refl
 
+pub word_align : llvm_class Word (codes "align") ≡ 65
+word_align = word_class (codes "align") 65 refl
+
 pub word_br : llvm_class Word (codes "br") ≡ 73
 word_br = word_class (codes "br") 73 refl
 
@@ -102,6 +105,9 @@ word_icmp = word_class (codes "icmp") 91 refl
 
 pub word_label : llvm_class Word (codes "label") ≡ 96
 word_label = word_class (codes "label") 96 refl
+
+pub word_load : llvm_class Word (codes "load") ≡ 97
+word_load = word_class (codes "load") 97 refl
 
 pub word_nneg : llvm_class Word (codes "nneg") ≡ 98
 word_nneg = word_class (codes "nneg") 98 refl
@@ -136,6 +142,9 @@ word_source_filename = word_class (codes "source_filename") 111 refl
 pub word_splat : llvm_class Word (codes "splat") ≡ 112
 word_splat = word_class (codes "splat") 112 refl
 
+pub word_store : llvm_class Word (codes "store") ≡ 113
+word_store = word_class (codes "store") 113 refl
+
 pub word_to : llvm_class Word (codes "to") ≡ 117
 word_to = word_class (codes "to") 117 refl
 
@@ -148,8 +157,14 @@ word_type = word_class (codes "type") 119 refl
 pub word_unreachable : llvm_class Word (codes "unreachable") ≡ 120
 word_unreachable = word_class (codes "unreachable") 120 refl
 
+pub word_va_arg : llvm_class Word (codes "va_arg") ≡ 122
+word_va_arg = word_class (codes "va_arg") 122 refl
+
 pub word_void : llvm_class Word (codes "void") ≡ 123
 word_void = word_class (codes "void") 123 refl
+
+pub word_volatile : llvm_class Word (codes "volatile") ≡ 124
+word_volatile = word_class (codes "volatile") 124 refl
 
 pub word_vscale : llvm_class Word (codes "vscale") ≡ 125
 word_vscale = word_class (codes "vscale") 125 refl

@@ -1,6 +1,8 @@
 -- The text that is printed of module data, a definition for each part.
 use Rattle.std.specs.Prelude.{ℕ, zero, suc, ◌-◌, ◌^◌, Bool, true, false, List, [], ◌∷◌, ◌++◌, Option, None, Some, nat_le, nat_lt, ◌==◌, if◌then◌else◌, drop, codes, decimal, slice_index_or}
 use Rattle.std.specs.List.{flat_map}
+use Rattle.kinds.specs.declared.access.Align.{Align}
+use Rattle.kinds.specs.Access.{bytes_of}
 use Rattle.kinds.specs.declared.fill.Fill.{Fill}
 use Rattle.kinds.specs.declared.fill.Fill.TheVariants as Z
 use Rattle.kinds.specs.declared.op.LLVMIntPredicate.{LLVMIntPredicate}
@@ -232,6 +234,21 @@ abbrev pub to_text : Option TypeTree → Text
 to_text None = []
 to_text (Some type) = codes " to " ++ type_text type
 
+-- the type that is written before operands
+abbrev pub before_text : Option TypeTree → Text
+before_text None = []
+before_text (Some type) = type_text type ++ codes ", "
+
+-- the type that is written behind operands, and a comma between
+abbrev pub after_text : Option TypeTree → Text
+after_text None = []
+after_text (Some type) = codes ", " ++ type_text type
+
+-- an alignment behind operands, where there is one
+abbrev pub align_text : Option Align → Text
+align_text None = []
+align_text (Some align) = codes ", align " ++ decimal (bytes_of align)
+
 -- a word, and the flags that are set, each before a blank
 abbrev pub flagged_text : Text → OverflowFlags → Text
 flagged_text word flags = word ++ codes " " ++ flag_text (codes "nuw") flags.nuw ++ flag_text (codes "nsw") flags.nsw
@@ -260,12 +277,16 @@ row_head O.IntToPtr = codes "inttoptr "
 row_head O.AddrSpaceCast = codes "addrspacecast "
 row_head O.Select = codes "select "
 row_head O.Freeze = codes "freeze "
+row_head (O.Load access) = codes "load " ++ flag_text (codes "volatile") access.volatile
+row_head (O.Store access) = codes "store " ++ flag_text (codes "volatile") access.volatile
+row_head O.VAArg = codes "va_arg "
 row_head O.Br = codes "br "
 row_head O.CondBr = codes "br "
 row_head O.Ret = codes "ret "
 row_head O.Unreachable = codes "unreachable"
 
--- what a row names, a line for each: most rows their operands, and behind them the type where one is written
+-- what a row names, and immediates that stand behind it, a line for each: most rows their operands, and behind them the type where
+-- one is written
 abbrev pub row_names : List Struct → Function → Op → Option TypeTree → List Operand → List ℕ → Text
 row_names structs f (O.Add flags) written os ts = operands_text structs f os ++ to_text written
 row_names structs f (O.Sub flags) written os ts = operands_text structs f os ++ to_text written
@@ -289,6 +310,9 @@ row_names structs f O.IntToPtr written os ts = operands_text structs f os ++ to_
 row_names structs f O.AddrSpaceCast written os ts = operands_text structs f os ++ to_text written
 row_names structs f O.Select written os ts = values_text structs f os
 row_names structs f O.Freeze written os ts = operands_text structs f os ++ to_text written
+row_names structs f (O.Load access) written os ts = before_text written ++ (values_text structs f os ++ align_text access.align)
+row_names structs f (O.Store access) written os ts = values_text structs f os ++ align_text access.align
+row_names structs f O.VAArg written os ts = operands_text structs f os ++ after_text written
 row_names structs f O.Br written os ts = targets_text f ts
 row_names structs f O.CondBr written os ts = operands_text structs f os ++ codes ", " ++ targets_text f ts
 row_names structs f O.Ret written os ts = returned_text structs f os

@@ -142,6 +142,15 @@ lost_samesign = 102
 abbrev pub nneg : ℕ
 nneg = 105
 
+abbrev pub load : ℕ
+load = 112
+
+abbrev pub store : ℕ
+store = 114
+
+abbrev pub volatile : ℕ
+volatile = 116
+
 abbrev pub entry : ℕ
 entry = 131
 
@@ -150,6 +159,12 @@ more_entries = 132
 
 abbrev pub entry_or_node : ℕ
 entry_or_node = 133
+
+abbrev pub align_attached : ℕ
+align_attached = 134
+
+abbrev pub align_or_attached : ℕ
+align_or_attached = 135
 
 abbrev pub attached : ℕ
 attached = 147

@@ -1,6 +1,8 @@
 -- The tokens of what a text says, with what stands before each: a definition for each part.
 use Rattle.std.specs.Prelude.{ℕ, zero, suc, decimal, Bool, true, false, List, [], ◌∷◌, ◌++◌, Option, None, Some, ◌==◌, if◌then◌else◌, codes}
 use Rattle.std.specs.List.{flat_map}
+use Rattle.kinds.specs.declared.access.Align.{Align}
+use Rattle.kinds.specs.Access.{bytes_of}
 use Rattle.kinds.specs.declared.op.OverflowFlags.{OverflowFlags}
 use Rattle.kinds.specs.declared.op.Op.{Op}
 use Rattle.kinds.specs.declared.op.Op.TheVariants as O
@@ -158,6 +160,21 @@ abbrev pub written_to : Option TypeTree → List Spaced
 written_to None = []
 written_to (Some τ) = word (codes "to") ∷ written_type (codes " ") τ
 
+-- the type that is written before other tokens
+abbrev pub written_before : Option TypeTree → List Spaced → List Spaced
+written_before None xs = xs
+written_before (Some τ) xs = written_type (codes " ") τ ++ (comma ∷ xs)
+
+-- the type that is written behind operands, and a comma between
+abbrev pub written_after : Option TypeTree → List Spaced
+written_after None = []
+written_after (Some τ) = comma ∷ written_type (codes " ") τ
+
+-- an alignment behind operands, where there is one
+abbrev pub written_align : Option Align → List Spaced
+written_align None = []
+written_align (Some align) = comma ∷ word (codes "align") ∷ apart K.Int (decimal (bytes_of align)) ∷ []
+
 -- a word where it is set
 abbrev pub written_flag : Text → Bool → List Spaced
 written_flag t false = []
@@ -190,14 +207,20 @@ written_head before O.IntToPtr = token before K.Word (codes "inttoptr") ∷ []
 written_head before O.AddrSpaceCast = token before K.Word (codes "addrspacecast") ∷ []
 written_head before O.Select = token before K.Word (codes "select") ∷ []
 written_head before O.Freeze = token before K.Word (codes "freeze") ∷ []
+written_head before (O.Load access) = token before K.Word (codes "load") ∷ written_flag (codes "volatile") access.volatile
+written_head before (O.Store access) = token before K.Word (codes "store") ∷ written_flag (codes "volatile") access.volatile
+written_head before O.VAArg = token before K.Word (codes "va_arg") ∷ []
 written_head before O.Br = token before K.Word (codes "br") ∷ []
 written_head before O.CondBr = token before K.Word (codes "br") ∷ []
 written_head before O.Ret = token before K.Word (codes "ret") ∷ []
 written_head before O.Unreachable = token before K.Word (codes "unreachable") ∷ []
 
--- what a row names, a line for each that is not as most: operands, and behind them the type where one is written
+-- what a row names, and immediates that stand behind it, a line for each that is not as most: operands, and behind them the type where one is written
 abbrev pub written_names : Op → RowLine → List Spaced
 written_names O.Select r = written_values r.operands
+written_names (O.Load access) r = written_before r.written (written_values r.operands ++ written_align access.align)
+written_names (O.Store access) r = written_values r.operands ++ written_align access.align
+written_names O.VAArg r = written_operands r.operands ++ written_after r.written
 written_names O.Br r = written_targets r.targets
 written_names O.CondBr r = written_operands r.operands ++ (comma ∷ written_targets r.targets)
 written_names O.Ret r = written_returned r.operands

@@ -359,6 +359,6 @@ makes_none (Some (R.Bits B.One)) old new h = inl h
 makes_none (Some (R.Bits (B.Many kind count))) old new h = (old, record { 0 = 0 }, inl refl, inl h)
 
 -- a type that was given a number is there
-pub interned_within : {E : Type 0} (r : Result LLVMType E) (old new : List LLVMTypeKind) (k : LLVMTypeKind) → IfOk r (λ (t : LLVMType). Interned old new k t.0) → IfOk r (λ (t : LLVMType). t.0 < length new)
-interned_within (Ok t) old new k h = slice_get_within new t.0 k h.here
-interned_within (Err e) old new k h = tt
+pub ok_within : {E : Type 0} (r : Result LLVMType E) (old new : List LLVMTypeKind) (k : LLVMTypeKind) → IfOk r (λ (t : LLVMType). Interned old new k t.0) → IfOk r (λ (t : LLVMType). t.0 < length new)
+ok_within (Ok t) old new k h = slice_get_within new t.0 k h.here
+ok_within (Err e) old new k h = tt

@@ -23,10 +23,11 @@ use Rattle.llvm_core.specs.Consts.{IsConstIn}
 use Rattle.llvm_core.specs.Parts.{IsTypeOver, IsValue, HasValues, IsResultOver, AreLanes, shape_at, laned_of, laned_at, bits_at, const_type, type_params, kind_params, param_types, value_type, result_type, given, row_fits, type_nth}
 use Rattle.kinds.specs.declared.rules.Gives.{Gives}
 use Rattle.kinds.specs.declared.rules.Gives.TheVariants as G
+use Rattle.kinds.specs.declared.fitting.Shape.{Shape}
 use Rattle.kinds.specs.declared.fitting.Shape.TheVariants as S
 use Rattle.kinds.specs.Types.{one}
 use Rattle.kinds.specs.Table.{rule_of}
-use Rattle.kinds.proofs.HeldLaws.{bit_lanes}
+use Rattle.kinds.specs.Fitting.{is_vector_of}
 use Rattle.std.proofs.Common.{All, subst, zero, suc, ◌∷◌}
 use Rattle.std.specs.Prelude.{IfSome}
 use Rattle.std.proofs.lemmas.List.Elements.{All-head, All-tail}
@@ -105,6 +106,10 @@ type_nth_within m (v ∷ vs) (suc i) t s h e = type_nth_within m vs i t s (All-t
 there_within : (m : Module) (o : Option LLVMType) (r : ResultType) → ((t : LLVMType) → o ≡ Some t → t.0 < length m.types) → option_map R.There o ≡ Some r → IsResultOver m.types r
 there_within m None r h e = cc
 there_within m (Some t) r h e = rw (← same_Some (R.There t) r e) (h t refl)
+
+-- as many bits as a vector of values has lanes are a vector of values
+bit_lanes : (n : ℕ) (s : Shape) → is_vector_of n s ≡ true → is_vector_of n (S.Int 1) ≡ true
+bit_lanes n s h = grind arith
 
 -- as many bits as a type has lanes make a vector, where they are more than one
 pub lanes_within : (m : Module) (t : LLVMType) → IsModule m → AreLanes (laned_at m.types t).lanes

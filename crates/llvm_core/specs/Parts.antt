@@ -197,7 +197,7 @@ abbrev pub result_type : Module → LLVMInst → Option ResultType
 result_type m (I.Phi type entries) = Some (R.There type)
 result_type m (I.Row r) = row_result m r
 
--- so many bits make a vector, or one bit is none
+-- as many bits may be a vector; one lane is none
 abbrev pub AreLanes : Lanes → Type 0
 AreLanes N.One = Unit {0}
 AreLanes (N.Many kind count) = F.is_vector_of count (S.Int 1) ≡ true
